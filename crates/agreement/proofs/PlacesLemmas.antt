@@ -19,6 +19,8 @@ pub mod Parameters
 pub mod Pending
 pub mod Nops
 pub mod Stepping
+pub mod Given
+pub mod Missing
 pub mod Callers
 pub mod Operands
 pub mod Examples

@@ -1,5 +1,6 @@
 pub mod Places
 pub mod Existence
+pub mod Calls
 pub mod NoLeaks
 pub mod Alive
 pub mod Statements

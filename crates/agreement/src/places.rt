@@ -4,7 +4,7 @@
 ghost use Rattle.std.specs.List.{All};
 ghost use Rattle.std.specs.Prelude.{◌≡◌, ◌≤◌, ◌+◌, true, ℕ, List, Option, None, Some, length, slice_get};
 ghost use Rattle.sem_primitives.specs.Jobs.{JobForm, Environment};
-ghost use Rattle.awk_grammar.specs.Item.{Item};
+ghost use Rattle.awk_grammar.specs.Trees.{Item};
 ghost use Rattle.awk_grammar.specs.Kinds.{most_parameters, refusal};
 ghost use Rattle.sem_primitives.specs.declared.sorts.Sort.{Sort};
 ghost use Rattle.sem_primitives.specs.declared.sorts.Sort.TheVariants as sort;

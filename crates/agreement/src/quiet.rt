@@ -3,7 +3,7 @@
 //! Laws of the runs of modules, each the contract of a function that does nothing.
 ghost use Rattle.std.specs.Prelude.{◌⊎◌, ℕ, List};
 ghost use Rattle.std.specs.List.{Contains};
-ghost use Rattle.awk_grammar.specs.Tree.{Tree};
+ghost use Rattle.awk_grammar.specs.Trees.{Tree};
 ghost use Rattle.sem_primitives.specs.Jobs.{JobForm, Environment};
 ghost use Rattle.host_step.specs.HostState.{HostState};
 ghost use Rattle.mid_program.specs.Mid.{Kind, Program, Slot, Then};

@@ -2,7 +2,7 @@
 //!
 //! Laws of the spots of scripts, each the contract of a function that does nothing.
 ghost use Rattle.std.specs.Prelude.{◌≡◌, ℕ, List, Some, map, slice_get};
-ghost use Rattle.awk_grammar.specs.Item.{Item};
+ghost use Rattle.awk_grammar.specs.Trees.{Item};
 ghost use Rattle.sem_scripts.specs.Kinds.{resolved};
 ghost use Rattle.sem_scripts.specs.Names.{Resolved};
 ghost use Rattle.sem_scripts.specs.ScriptRun.{Setting, resolved_run};

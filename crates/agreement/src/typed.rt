@@ -7,7 +7,7 @@ ghost use Rattle.mid_program.specs.Mid.{Program};
 ghost use Rattle.mid_program.specs.Sorted.{IsSorted};
 ghost use Rattle.lower_model.specs.Emission.{function_number};
 ghost use Rattle.lower_model.specs.Functions.{texts_of};
-ghost use Rattle.host_imports.specs.Imports.{import_number};
+ghost use Rattle.host_imports.specs.Names.{import_number};
 ghost use Rattle.lower_model.specs.Modules.{all_callees, any_calls, called_imports, imports_of, module_of, new_number};
 ghost use Rattle.host_imports.specs.declared.import.Import.{Import};
 ghost use Rattle.lower_model.specs.Places.{memory_of};

@@ -3,7 +3,8 @@ use Rattle.std.proofs.Common.{◌≡◌, ℕ, zero, suc, ◌<◌, ◌≤◌, Boo
 use Rattle.std.proofs.lemmas.Bool.{lt-ltb, le-ltb, leb-true, le-leb, or_from, or_left, or_parts, and_right, and_from}
 use Rattle.awk_grammar.specs.Token.{Prefix, Not, Signed, Step, Less, Symbol, Assign, Or, And, Match, Compare, Mul, Pow, Literal, Token, Lit, Name, FuncName, Word, GetlineWord, InWord, Dollar, Open, Close, OpenBracket, CloseBracket, Comma, Question, Colon, NotMark, StepMark, Infix}
 use Rattle.awk_tokens.specs.declared.reserved_words.Builtin.{Builtin}
-use Rattle.awk_grammar.specs.Tree.{Op, Join, Add, Other, Tree, Leaf, Length, Var, Index, Field, Group, Call, Apply, Unary, Pre, Post, Bin, Has, HasList, Cond, Get, GetInto, GetFrom, GetIntoFrom, Trees, NoTree, Then, op_tokens, prefix_token, print, print_list, print_more, op_level, op_left, op_right, op_edge, symbol_level, Mode, Whole, Factor, Plain, LValue, InField, floor, normal, level, is_field, fits, edge, Class, IsLess, Steps, Free, class_at, is_opens, is_index, is_start, is_less, is_steps, takes, StartsOperand, MayJoin, op_allowed, IsSome, IsWellFormed, AreWellFormed, depth, depths}
+use Rattle.awk_grammar.specs.Tree.{op_tokens, print, print_list, print_more, op_level, op_left, op_right, op_edge, symbol_level, Mode, Whole, Factor, Plain, LValue, InField, floor, normal, level, is_field, fits, edge, Class, IsLess, Steps, Free, class_at, is_opens, is_index, is_start, is_less, is_steps, takes, StartsOperand, MayJoin, op_allowed, IsSome, IsWellFormed, AreWellFormed}
+use Rattle.awk_grammar.specs.Trees.{Op, Join, Add, Other, Tree, Leaf, Length, Var, Index, Field, Group, Call, Apply, Unary, Pre, Post, Bin, Has, HasList, Cond, Get, GetInto, GetFrom, GetIntoFrom, Trees, NoTree, Then, prefix_token, depth, depths}
 use Rattle.awk_grammar.specs.Reading.{◌>>=◌, Read, ReadMany, Reader, close_at, bracket_at, in_at, name_at, comma_at, open_at, index_at, less_at, Link, Joined, Within, Chosen, link_level, link_left, link_at, more_at, list_at, arguments_at, suited, paren_by, under, first_at, posted_by, posted, after, goes_on, climb, expr_at}
 use Rattle.awk_grammar.proofs.Sound.{heads, class_op, closing, loose}
 

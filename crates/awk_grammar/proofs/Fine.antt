@@ -4,11 +4,12 @@ use Rattle.std.specs.Prelude.{◌&&◌, not, nat_le, ◌↔◌, IsTrue}
 use Rattle.std.proofs.lemmas.Bool.{leb-true, le-leb}
 use Rattle.std.proofs.lemmas.List.{append-nil}
 use Rattle.awk_grammar.specs.Token.{Not, Signed, Less as LessMark, LessEqual, Equal, NotEqual, Greater, GreaterEqual, Assign, Or, And as AndMark, Match, Compare, Mul, Pow, Token}
-use Rattle.awk_grammar.specs.Tree.{Op, Join, Add, Other as Infixed, Tree, Leaf, Length, Var, Index, Field, Group, Call, Apply, Unary, Pre, Post, Bin, Has, HasList, Cond, Get, GetInto, GetFrom, GetIntoFrom, Trees, NoTree, Then, op_tokens, print, op_left, op_right, op_allowed, level, edge, is_field, fits, class_at, takes, suits, StartsOperand, MayJoin, IsSome, IsWellFormed, AreWellFormed}
+use Rattle.awk_grammar.specs.Tree.{op_tokens, print, op_left, op_right, op_allowed, level, edge, is_field, fits, class_at, takes, suits, StartsOperand, MayJoin, IsSome, IsWellFormed, AreWellFormed}
+use Rattle.awk_grammar.specs.Trees.{Op, Join, Add, Other as Infixed, Tree, Leaf, Length, Var, Index, Field, Group, Call, Apply, Unary, Pre, Post, Bin, Has, HasList, Cond, Get, GetInto, GetFrom, GetIntoFrom, Trees, NoTree, Then, Printing, Print, Printf, Args, NoArgs, Listed, Enclosed, Target, NoTarget, Written, Appended, Plain, Eval, Put, Delete, Clear, Stmt, Block, Empty, Simple, If, IfElse, While, Do, For, ForIn, Jumping, Leave, Stmts, NoStmt, And, Pattern, One, Between, Item, Function, Begin, End, Always, When, Lone, Nothing}
 use Rattle.awk_grammar.specs.Shape.{view_next, head_of, behind, is_sign, may_join}
 use Rattle.awk_grammar.specs.WellFormed.{joins, is_some_tree, well_formed, all_well_formed, are_args, is_target, is_plain, is_maybe, is_maybe_plain, is_stmt, are_stmts, is_pattern, is_item, is_script}
-use Rattle.awk_grammar.specs.Stmt.{Printing, Print, Printf, Args, NoArgs, Listed, Enclosed, Target, NoTarget, Written, Appended, Plain, Eval, Put, Delete, Clear, Stmt, Block, Empty, Simple, If, IfElse, While, Do, For, ForIn, Jumping, Leave, Stmts, NoStmt, And, IsArgs, IsTarget, IsPlain, IsMaybe, IsMaybePlain, dangles, IsStmt, AreStmts}
-use Rattle.awk_grammar.specs.Item.{Pattern, One, Between, Item, Function, Begin, End, Always, When, Lone, Nothing, IsPattern, IsItem, IsScript}
+use Rattle.awk_grammar.specs.Stmt.{IsArgs, IsTarget, IsPlain, IsMaybe, IsMaybePlain, dangles, IsStmt, AreStmts}
+use Rattle.awk_grammar.specs.Item.{IsPattern, IsItem, IsScript}
 use Rattle.awk_grammar.specs.declared.shape.Next.{Next}
 
 both : (a b : Bool) → (a && b) ≡ true → (a ≡ true) × (b ≡ true)

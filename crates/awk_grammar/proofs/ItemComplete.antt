@@ -3,9 +3,10 @@ use Rattle.std.proofs.Common.{◌≡◌, ℕ, zero, suc, ◌+◌, ◌<◌, ◌�
 use Rattle.awk_grammar.specs.Token.{BeginWord, EndWord, FunctionWord, Token, Name, Open, Close, OpenBrace, CloseBrace, Comma, Semicolon, Key, Fault}
 use Rattle.awk_grammar.specs.Tree.{print, Whole}
 use Rattle.awk_grammar.specs.Reading.{◌>>=◌, close_at, comma_at, expr_at}
-use Rattle.awk_grammar.specs.Stmt.{Stmts, print_stmts, AreStmts, stmts_depth}
+use Rattle.awk_grammar.specs.Stmt.{print_stmts, AreStmts}
+use Rattle.awk_grammar.specs.Trees.{Stmts, stmts_depth, Pattern, One, Between, Item, Function, Begin, End, Always, When, Lone, Nothing, pattern_depth, item_depth, script_depth}
 use Rattle.awk_grammar.specs.ReadStmt.{Read, stmts_at, stmt_at, starts_expr}
-use Rattle.awk_grammar.specs.Item.{Pattern, One, Between, Item, Function, Begin, End, Always, When, Lone, Nothing, print_body, print_names, print_params, print_pattern, print_item, print_script, IsPattern, IsItem, IsScript, pattern_depth, item_depth, script_depth}
+use Rattle.awk_grammar.specs.Item.{print_body, print_names, print_params, print_pattern, print_item, print_script, IsPattern, IsItem, IsScript}
 use Rattle.awk_grammar.specs.ReadItem.{body_at, names_at, params_at, function_by, pattern_at, action_at, rule_at, item_at, items_by, items_at, script_at}
 use Rattle.awk_grammar.proofs.Complete.{Closing, reads_whole, again}
 use Rattle.awk_grammar.proofs.StmtComplete.{starts_print, stmts_again}

@@ -1,11 +1,12 @@
 -- What is read is a well formed script, and printed so.
 use Rattle.std.proofs.Common.{◌≡◌, ℕ, zero, suc, ◌+◌, ◌≤◌, true, List, [], ◌∷◌, ◌++◌, length, Option, Some, None, Ok, refl, sym, ap, subst, ◌∙◌, arith}
 use Rattle.awk_grammar.specs.Token.{BeginWord, EndWord, FunctionWord, Token, Name, Open, Close, OpenBrace, Comma, Semicolon, Key}
-use Rattle.awk_grammar.specs.Tree.{Tree, print, IsWellFormed, Whole, depth}
+use Rattle.awk_grammar.specs.Tree.{print, IsWellFormed, Whole}
+use Rattle.awk_grammar.specs.Trees.{Tree, depth, Stmts, stmts_depth, Pattern, One, Between, Item, Function, Begin, End, Always, When, Lone, Nothing, pattern_depth, item_depth}
 use Rattle.awk_grammar.specs.Reading.{◌>>=◌, close_at, name_at, comma_at, expr_at}
-use Rattle.awk_grammar.specs.Stmt.{Stmts, AreStmts, stmts_depth}
+use Rattle.awk_grammar.specs.Stmt.{AreStmts}
 use Rattle.awk_grammar.specs.ReadStmt.{open_here, stmt_at}
-use Rattle.awk_grammar.specs.Item.{Pattern, One, Between, Item, Function, Begin, End, Always, When, Lone, Nothing, print_body, print_names, print_params, print_pattern, print_item, IsPattern, IsItem, pattern_depth, item_depth}
+use Rattle.awk_grammar.specs.Item.{print_body, print_names, print_params, print_pattern, print_item, IsPattern, IsItem}
 use Rattle.awk_grammar.specs.ReadItem.{body_at, names_by, names_at, params_at, function_by, function_at, pattern_by, pattern_at, action_at, rule_at, item_at, items_at, script_at}
 use Rattle.awk_grammar.specs.TreeOf.{IsReadAs}
 use Rattle.awk_grammar.proofs.Sound.{bind_ok, IsOk, ok_is, cons, close_ok, name_ok, comma_ok, expr_sound, regroup2}

@@ -1,10 +1,10 @@
 -- Lists of trees of the code, as the definitions see them.
 use Rattle.std.specs.Prelude.{nat_le, min, ◌&&◌}
 use Rattle.std.proofs.Common.{rules, ◌≡◌, ℕ, ◌<◌, ◌≤◌, true, false, List, [], ◌∷◌, length, refl, ap, ◌∙◌, sym, arith}
-use Rattle.awk_grammar.specs.Tree.{count, second_is_var, third_is_lvalue, Trees, Then, Index, Call as Called, Apply as Applied, HasList}
+use Rattle.awk_grammar.specs.Tree.{second_is_var, third_is_lvalue}
+use Rattle.awk_grammar.specs.Trees.{count, Trees, Then, Index, Call as Called, Apply as Applied, HasList, And, Block as Blocked}
 use Rattle.awk_grammar.specs.WellFormed.{is_some_tree}
 use Rattle.awk_grammar.specs.View.{view, view_row, views}
-use Rattle.awk_grammar.specs.Stmt.{And, Block as Blocked}
 use Rattle.awk_grammar.specs.ViewStmt.{view_stmt, view_stmt_row, view_stmts}
 use Rattle.awk_grammar.specs.declared.tree.Stmt.{Stmt, Block, Row_of-Stmt, end_of-Stmt, more_of-Stmt, items-the_row-Stmt, items_hidden-the_row-Stmt-0}
 use Rattle.awk_grammar.specs.declared.tree.Stmt.TheBlock.{hidden-the_row-Stmt-0}

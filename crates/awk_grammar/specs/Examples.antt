@@ -2,9 +2,7 @@
 use Rattle.std.specs.Prelude.{◌≡◌, ℕ, zero, suc, true, false, codes, List, [], ◌∷◌, Some, None, refl}
 use Rattle.awk_tokens.specs.declared.reserved_words.Builtin.TheVariants.{Split}
 use Rattle.awk_grammar.specs.Token.{Number, Set, Assign}
-use Rattle.awk_grammar.specs.Tree.{Tree, Leaf, Var, Index, Group, Call, Apply, Bin, Other, Has, Trees, NoTree, Then}
-use Rattle.awk_grammar.specs.Stmt.{Eval, Simple, Stmt, Stmts, NoStmt, And}
-use Rattle.awk_grammar.specs.Item.{Item, Function, Begin}
+use Rattle.awk_grammar.specs.Trees.{Tree, Leaf, Var, Index, Group, Call, Apply, Bin, Other, Has, Trees, NoTree, Then, Eval, Simple, Stmt, Stmts, NoStmt, And, Item, Function, Begin}
 use Rattle.awk_grammar.specs.Kinds.{TooMany, DuplicateName, UnknownFunction, ArgCount, KindClash, Name, special_arrays, special_scalars, refusal, resolved}
 
 -- Scripts.

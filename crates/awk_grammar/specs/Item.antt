@@ -1,21 +1,9 @@
--- Items and scripts: their tokens, and which are well formed.
-use Rattle.std.specs.Prelude.{ℕ, max, true, List, [], ◌∷◌, ◌++◌}
+-- Items and scripts: their tokens, and which are well formed. The productions of awk_tree say the same.
+use Rattle.std.specs.Prelude.{ℕ, true, List, [], ◌∷◌, ◌++◌}
 use Rattle.awk_grammar.specs.Token.{BeginWord, EndWord, FunctionWord, Token, Name, Open, Close, OpenBrace, CloseBrace, Comma, Semicolon, Key}
-use Rattle.awk_grammar.specs.Tree.{Tree, print, IsWellFormed, depth}
-use Rattle.awk_grammar.specs.Stmt.{Stmts, print_stmts, AreStmts, stmts_depth}
-
-pub data Pattern : Type 0 where
-  One : Tree → Pattern
-  Between : Tree → Tree → Pattern
-
-pub data Item : Type 0 where
-  Function : List ℕ → List (List ℕ) → Stmts → Item
-  Begin : Stmts → Item
-  End : Stmts → Item
-  Always : Stmts → Item
-  When : Pattern → Stmts → Item
-  Lone : Pattern → Item
-  Nothing : Item
+use Rattle.awk_grammar.specs.Tree.{print, IsWellFormed}
+use Rattle.awk_grammar.specs.Trees.{Stmts, Pattern, One, Between, Item, Function, Begin, End, Always, When, Lone, Nothing}
+use Rattle.awk_grammar.specs.Stmt.{print_stmts, AreStmts}
 
 abbrev pub print_body : Stmts → List Token
 print_body ss = OpenBrace ∷ (print_stmts ss ++ (CloseBrace ∷ []))
@@ -61,24 +49,3 @@ IsItem Nothing = Unit {0}
 abbrev pub IsScript : List Item → Type 0
 IsScript [] = Unit {0}
 IsScript (i ∷ is) = IsItem i × IsScript is
-
-abbrev pub pattern_depth : Pattern → ℕ
-pattern_depth (One t) = depth t
-pattern_depth (Between t u) = max (depth t) (depth u)
-
-abbrev pub item_depth : Item → ℕ
-item_depth (Function n ps ss) = stmts_depth ss
-item_depth (Begin ss) = stmts_depth ss
-item_depth (End ss) = stmts_depth ss
-item_depth (Always ss) = stmts_depth ss
-item_depth (When p ss) = max (pattern_depth p) (stmts_depth ss)
-item_depth (Lone p) = pattern_depth p
-item_depth Nothing = 0
-
--- a script that is read has at most this depth
-abbrev pub most_depth : ℕ
-most_depth = 1000
-
-abbrev pub script_depth : List Item → ℕ
-script_depth [] = 0
-script_depth (i ∷ is) = max (item_depth i) (script_depth is)

@@ -3,7 +3,7 @@ use Rattle.std.specs.Prelude.{ℕ, ◌+◌, ◌==◌, nat_le, Bool, true, false,
 use Rattle.std.specs.Cmp.Lexicographic.{pointwise}
 use Rattle.std.specs.List.{list_any, slice_get}
 use Rattle.std.specs.Option.{option_map, is_some}
-use Rattle.awk_grammar.specs.Item.{Item, Function as FunctionItem}
+use Rattle.awk_grammar.specs.Trees.{Item, Function as FunctionItem}
 use Rattle.awk_grammar.specs.Marks.{Kind, Array, Scalar, Mark, Defined, Parameter, Used, Called, Computed, Given, script_marks}
 use Rattle.awk_grammar.specs.Least.{least}
 

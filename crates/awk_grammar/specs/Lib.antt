@@ -1,4 +1,5 @@
 pub mod Token
+pub mod Trees
 pub mod Tree
 pub mod Reading
 pub mod Stmt

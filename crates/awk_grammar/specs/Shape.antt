@@ -1,7 +1,8 @@
 -- The conditions of the grammar as tests.
 use Rattle.std.specs.Prelude.{Bool, true, false, not}
 use Rattle.awk_grammar.specs.Token.{Prefix, Not, Signed, Less as LessMark, Symbol, Compare}
-use Rattle.awk_grammar.specs.Tree.{Op, Join, Add, Other as Infixed, Tree, Leaf, Length, Var, Index, Field, Group, Call, Apply, Unary, Pre, Post, Bin, Has, HasList, Cond, Get, GetInto, GetFrom, GetIntoFrom, Class, Opens, OpensIndex, StartsLValue, IsLess, Steps, Free}
+use Rattle.awk_grammar.specs.Tree.{Class, Opens, OpensIndex, StartsLValue, IsLess, Steps, Free}
+use Rattle.awk_grammar.specs.Trees.{Op, Join, Add, Other as Infixed, Tree, Leaf, Length, Var, Index, Field, Group, Call, Apply, Unary, Pre, Post, Bin, Has, HasList, Cond, Get, GetInto, GetFrom, GetIntoFrom}
 use Rattle.awk_grammar.specs.declared.shape.Next.{Next}
 use Rattle.awk_grammar.specs.declared.shape.Next.TheVariants.{Paren, Bracket, LValue, Less, Step, Sign, Other}
 

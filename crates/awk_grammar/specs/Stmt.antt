@@ -1,56 +1,8 @@
--- Statements and items, their tokens, and which are well formed.
-use Rattle.std.specs.Prelude.{◌≡◌, ℕ, ◌+◌, max, Bool, true, false, Option, Some, None, List, [], ◌∷◌, ◌++◌}
-use Rattle.awk_grammar.specs.Token.{Greater, Compare, IfWord, ElseWord, WhileWord, ForWord, DoWord, BreakWord, ContinueWord, NextWord, NextFileWord, ExitWord, ReturnWord, DeleteWord, PrintWord, PrintfWord, Token, Name, InWord, Open, Close, OpenBracket, CloseBracket, OpenBrace, CloseBrace, Comma, Semicolon, Infix, Append, Key}
-use Rattle.awk_grammar.specs.Tree.{Tree, Trees, print, print_list, AfterCompare, fits, IsSome, IsWellFormed, AreWellFormed, depth, depths}
-
-pub data Printing : Type 0 where
-  Print : Printing
-  Printf : Printing
-
-pub data Args : Type 0 where
-  NoArgs : Args
-  Listed : Trees → Args
-  Enclosed : Tree → Trees → Args
-
-pub data Target : Type 0 where
-  NoTarget : Target
-  Written : Tree → Target
-  Appended : Tree → Target
-
--- what may also stand in the head of a `for`
-pub data Plain : Type 0 where
-  Eval : Tree → Plain
-  Put : Printing → Args → Target → Plain
-  Delete : List ℕ → Trees → Plain
-  Clear : List ℕ → Plain
-
-pub data Jump : Type 0 where
-  Break : Jump
-  Continue : Jump
-  Next : Jump
-  NextFile : Jump
-
-pub data Leaving : Type 0 where
-  Exit : Leaving
-  Return : Leaving
-
-mutual
-  pub data Stmt : Type 0 where
-    Block : Stmts → Stmt
-    Empty : Stmt
-    Simple : Plain → Stmt
-    If : Tree → Stmt → Stmt
-    IfElse : Tree → Stmt → Stmt → Stmt
-    While : Tree → Stmt → Stmt
-    Do : Stmt → Tree → Stmt
-    For : Option Plain → Option Tree → Option Plain → Stmt → Stmt
-    ForIn : List ℕ → List ℕ → Stmt → Stmt
-    Jumping : Jump → Stmt
-    Leave : Leaving → Option Tree → Stmt
-
-  pub data Stmts : Type 0 where
-    NoStmt : Stmts
-    And : Stmt → Stmts → Stmts
+-- Statements: their tokens, and which are well formed. The productions of awk_tree say the same.
+use Rattle.std.specs.Prelude.{◌≡◌, ◌+◌, Bool, true, false, Option, Some, None, List, [], ◌∷◌, ◌++◌}
+use Rattle.awk_grammar.specs.Token.{Greater, Compare, IfWord, ElseWord, WhileWord, ForWord, DoWord, DeleteWord, PrintWord, PrintfWord, Token, Name, InWord, Open, Close, OpenBracket, CloseBracket, OpenBrace, CloseBrace, Comma, Semicolon, Infix, Append, Key}
+use Rattle.awk_grammar.specs.Tree.{print, print_list, AfterCompare, fits, IsSome, IsWellFormed, AreWellFormed}
+use Rattle.awk_grammar.specs.Trees.{Tree, Printing, Print, Printf, Args, NoArgs, Listed, Enclosed, Target, NoTarget, Written, Appended, Plain, Eval, Put, Delete, Clear, Stmt, Stmts, Block, Empty, Simple, If, IfElse, While, Do, For, ForIn, Jumping, Leave, NoStmt, And, jump_token, leaving_token}
 
 -- ---- tokens
 
@@ -81,16 +33,6 @@ print_maybe (Some t) = print t
 abbrev pub print_maybe_plain : Option Plain → List Token
 print_maybe_plain None = []
 print_maybe_plain (Some p) = print_plain p
-
-abbrev pub jump_token : Jump → Token
-jump_token Break = Key BreakWord
-jump_token Continue = Key ContinueWord
-jump_token Next = Key NextWord
-jump_token NextFile = Key NextFileWord
-
-abbrev pub leaving_token : Leaving → Token
-leaving_token Exit = Key ExitWord
-leaving_token Return = Key ReturnWord
 
 abbrev mutual
   pub print_stmt : Stmt → List Token
@@ -167,47 +109,3 @@ abbrev mutual
   pub AreStmts : Stmts → Type 0
   AreStmts NoStmt = Unit {0}
   AreStmts (And s ss) = IsStmt s × AreStmts ss
-
--- ---- depth
-
-abbrev pub args_depth : Args → ℕ
-args_depth NoArgs = 0
-args_depth (Listed ts) = depths ts
-args_depth (Enclosed t ts) = max (depth t) (depths ts)
-
-abbrev pub target_depth : Target → ℕ
-target_depth NoTarget = 0
-target_depth (Written t) = depth t
-target_depth (Appended t) = depth t
-
-abbrev pub plain_depth : Plain → ℕ
-plain_depth (Eval t) = depth t
-plain_depth (Put p a t) = max (args_depth a) (target_depth t)
-plain_depth (Delete n ts) = depths ts
-plain_depth (Clear n) = 0
-
-abbrev pub maybe_depth : Option Tree → ℕ
-maybe_depth None = 0
-maybe_depth (Some t) = depth t
-
-abbrev pub maybe_plain_depth : Option Plain → ℕ
-maybe_plain_depth None = 0
-maybe_plain_depth (Some p) = plain_depth p
-
-abbrev mutual
-  pub stmt_depth : Stmt → ℕ
-  stmt_depth (Block ss) = stmts_depth ss + 1
-  stmt_depth Empty = 1
-  stmt_depth (Simple p) = plain_depth p + 1
-  stmt_depth (If c s) = max (depth c) (stmt_depth s) + 1
-  stmt_depth (IfElse c s t) = max (depth c) (max (stmt_depth s) (stmt_depth t)) + 1
-  stmt_depth (While c s) = max (depth c) (stmt_depth s) + 1
-  stmt_depth (Do s c) = max (stmt_depth s) (depth c) + 1
-  stmt_depth (For i c p s) = max (max (maybe_plain_depth i) (maybe_depth c)) (max (maybe_plain_depth p) (stmt_depth s)) + 1
-  stmt_depth (ForIn k a s) = stmt_depth s + 1
-  stmt_depth (Jumping j) = 1
-  stmt_depth (Leave l e) = maybe_depth e + 1
-
-  pub stmts_depth : Stmts → ℕ
-  stmts_depth NoStmt = 0
-  stmts_depth (And s ss) = max (stmt_depth s) (stmts_depth ss)

@@ -1,49 +1,14 @@
--- Expressions, their tokens, and which are well formed.
-use Rattle.std.specs.Prelude.{◌≡◌, ℕ, ◌+◌, ◌≤◌, min, max, Bool, true, false, ◌||◌, ◌&&◌, nat_le, List, [], ◌∷◌, ◌++◌}
-use Rattle.awk_grammar.specs.Token.{Sign, Prefix, Not, Signed, Step, Less, Greater, Symbol, Assign, Or, And, Match, Compare, Mul, Pow, Literal, Token, Lit, Name, FuncName, Word, GetlineWord, InWord, Dollar, Open, Close, OpenBracket, CloseBracket, Comma, Question, Colon, SignMark, NotMark, StepMark, Infix}
+-- Expressions: their tokens, and which are well formed. The productions of awk_tree say the same.
+use Rattle.std.specs.Prelude.{◌≡◌, ℕ, ◌+◌, ◌≤◌, min, Bool, true, false, ◌||◌, ◌&&◌, nat_le, List, [], ◌∷◌, ◌++◌}
+use Rattle.awk_grammar.specs.Token.{Less, Greater, Symbol, Assign, Or, And, Match, Compare, Mul, Pow, Token, Lit, Name, FuncName, Word, GetlineWord, InWord, Dollar, Open, Close, OpenBracket, CloseBracket, Comma, Question, Colon, SignMark, NotMark, StepMark, Infix}
 use Rattle.awk_tokens.specs.declared.reserved_words.Builtin.{Builtin}
 use Rattle.awk_tokens.specs.declared.reserved_words.Builtin.TheVariants.{Length as LengthOf, Substr, Index as IndexOf, Split, Sub, Gsub, Match as MatchOf, Sprintf, ToLower, ToUpper, Int as IntOf, Close as CloseOf, Fflush as FflushOf}
-
--- what joins two expressions
-pub data Op : Type 0 where
-  Join : Op
-  Add : Sign → Op
-  Other : Symbol → Op
-
-mutual
-  pub data Tree : Type 0 where
-    Leaf : Literal → Tree
-    Length : Tree
-    Var : List ℕ → Tree
-    Index : List ℕ → Trees → Tree
-    Field : Tree → Tree
-    Group : Tree → Tree
-    Call : List ℕ → Trees → Tree
-    Apply : Builtin → Trees → Tree
-    Unary : Prefix → Tree → Tree
-    Pre : Step → Tree → Tree
-    Post : Step → Tree → Tree
-    Bin : Op → Tree → Tree → Tree
-    Has : Tree → List ℕ → Tree
-    HasList : Tree → Trees → List ℕ → Tree
-    Cond : Tree → Tree → Tree → Tree
-    Get : Tree
-    GetInto : Tree → Tree
-    GetFrom : Tree → Tree
-    GetIntoFrom : Tree → Tree → Tree
-
-  pub data Trees : Type 0 where
-    NoTree : Trees
-    Then : Tree → Trees → Trees
+use Rattle.awk_grammar.specs.Trees.{Op, Join, Add, Other, Tree, Trees, Leaf, Length, Var, Index, Field, Group, Call, Apply, Unary, Pre, Post, Bin, Has, HasList, Cond, Get, GetInto, GetFrom, GetIntoFrom, NoTree, Then, prefix_token, count}
 
 abbrev pub op_tokens : Op → List Token
 op_tokens Join = []
 op_tokens (Add s) = SignMark s ∷ []
 op_tokens (Other s) = Infix s ∷ []
-
-abbrev pub prefix_token : Prefix → Token
-prefix_token Not = NotMark
-prefix_token (Signed s) = SignMark s
 
 abbrev mutual
   pub print : Tree → List Token
@@ -295,10 +260,6 @@ abbrev pub op_allowed : Bool → Op → Bool
 op_allowed g (Other s) = allowed g s
 op_allowed g _ = true
 
-abbrev pub count : Trees → ℕ
-count NoTree = 0
-count (Then t ts) = count ts + 1
-
 abbrev pub is_var : Tree → Bool
 is_var (Var n) = true
 is_var _ = false
@@ -361,29 +322,3 @@ abbrev mutual
   pub AreWellFormed : Bool → Trees → Type 0
   AreWellFormed g NoTree = Unit {0}
   AreWellFormed g (Then t ts) = IsWellFormed g t × AreWellFormed g ts
-
-abbrev mutual
-  pub depth : Tree → ℕ
-  depth (Leaf c) = 1
-  depth Length = 1
-  depth (Var n) = 1
-  depth (Index n ts) = depths ts + 1
-  depth (Field t) = depth t + 1
-  depth (Group t) = depth t + 1
-  depth (Call f ts) = depths ts + 1
-  depth (Apply f ts) = depths ts + 1
-  depth (Unary p t) = depth t + 1
-  depth (Pre s t) = depth t + 1
-  depth (Post s t) = depth t + 1
-  depth (Bin op a b) = max (depth a) (depth b) + 1
-  depth (Has a n) = depth a + 1
-  depth (HasList t ts n) = max (depth t) (depths ts) + 1
-  depth (Cond a b c) = max (depth a) (max (depth b) (depth c)) + 1
-  depth Get = 1
-  depth (GetInto v) = depth v + 1
-  depth (GetFrom s) = depth s + 1
-  depth (GetIntoFrom v s) = max (depth v) (depth s) + 1
-
-  pub depths : Trees → ℕ
-  depths NoTree = 0
-  depths (Then t ts) = max (depth t) (depths ts)

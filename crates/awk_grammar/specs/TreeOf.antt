@@ -2,7 +2,8 @@
 use Rattle.std.specs.Prelude.{◌≡◌, ℕ, ◌≤◌, List}
 use Rattle.awk_tokens.specs.Cutting.{Spelled}
 use Rattle.awk_grammar.specs.Token.{Token}
-use Rattle.awk_grammar.specs.Item.{Item, IsScript, print_script, script_depth}
+use Rattle.awk_grammar.specs.Item.{IsScript, print_script}
+use Rattle.awk_grammar.specs.Trees.{Item, script_depth}
 use Rattle.awk_grammar.specs.Lexeme.{spoken}
 
 -- the script is well formed, and the tokens are its own: lines and the texts of punctuators and words aside

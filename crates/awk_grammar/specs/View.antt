@@ -1,7 +1,7 @@
 -- The plain tree that a tree of the code stands for.
 use Rattle.std.specs.Prelude.{List, [], ◌∷◌}
 use Rattle.awk_grammar.specs.Token.{Plus, Minus, Prefix, Not, Signed, Step, Increment, Decrement, Less, LessEqual, Equal, NotEqual, Greater, GreaterEqual, Matches, Differs, Times, Over, Modulo, Assigning, Set, SetSum, SetProduct, SetPower, Assign, Or, And, Match, Compare, Mul, Pow, Number, Quoted, Ere}
-use Rattle.awk_grammar.specs.Tree.{Op, Join, Add, Other, Tree, Leaf, Length, Var, Index, Field, Group, Call, Apply, Unary, Pre, Post, Bin, Has, HasList, Cond, Get, GetInto, GetFrom, GetIntoFrom, Trees, NoTree, Then}
+use Rattle.awk_grammar.specs.Trees.{Op, Join, Add, Other, Tree, Leaf, Length, Var, Index, Field, Group, Call, Apply, Unary, Pre, Post, Bin, Has, HasList, Cond, Get, GetInto, GetFrom, GetIntoFrom, Trees, NoTree, Then}
 use Rattle.awk_grammar.specs.declared.tree.StepOp.{StepOp}
 use Rattle.awk_grammar.specs.declared.tree.StepOp.TheVariants.{Increment as Increment', Decrement as Decrement'}
 use Rattle.awk_grammar.specs.declared.tree.UnaryOp.{UnaryOp}

@@ -1,9 +1,7 @@
 -- The plain statements and items that those of the code stand for.
 use Rattle.std.specs.Prelude.{ℕ, List, [], ◌∷◌, map, Option, Some, None}
 use Rattle.std.specs.Global.{Vec}
-use Rattle.awk_grammar.specs.Tree.{Tree}
-use Rattle.awk_grammar.specs.Stmt.{Printing, Print as Printed, Printf as Formatted, Args, NoArgs, Listed as ListArgs, Enclosed as EnclosedArgs, Target, NoTarget, Written, Appended, Plain, Eval as EvalPlain, Put, Delete as DeletePlain, Clear as ClearPlain, Jump as PlainJump, Break as BreakJump, Continue as ContinueJump, Next as NextJump, NextFile as NextFileJump, Leaving as PlainLeaving, Exit as ExitLeaving, Return as ReturnLeaving, Stmt as PlainStmt, Block, Empty as EmptyStmt, Simple as SimpleOne, If, IfElse, While, Do, For, ForIn, Jumping, Leave as LeaveStmt, Stmts, NoStmt, And}
-use Rattle.awk_grammar.specs.Item.{Pattern as PlainPattern, One as OnePattern, Between, Item as PlainItem, Function as FunctionItem, Begin as BeginItem, End as EndItem, Always, When, Lone, Nothing}
+use Rattle.awk_grammar.specs.Trees.{Tree, Printing, Print as Printed, Printf as Formatted, Args, NoArgs, Listed as ListArgs, Enclosed as EnclosedArgs, Target, NoTarget, Written, Appended, Plain, Eval as EvalPlain, Put, Delete as DeletePlain, Clear as ClearPlain, Jump as PlainJump, Break as BreakJump, Continue as ContinueJump, Next as NextJump, NextFile as NextFileJump, Leaving as PlainLeaving, Exit as ExitLeaving, Return as ReturnLeaving, Stmt as PlainStmt, Block, Empty as EmptyStmt, Simple as SimpleOne, If, IfElse, While, Do, For, ForIn, Jumping, Leave as LeaveStmt, Stmts, NoStmt, And, Pattern as PlainPattern, One as OnePattern, Between, Item as PlainItem, Function as FunctionItem, Begin as BeginItem, End as EndItem, Always, When, Lone, Nothing}
 use Rattle.awk_grammar.specs.View.{view, views}
 use Rattle.awk_grammar.specs.declared.tree.Expr.{Expr}
 use Rattle.awk_grammar.specs.declared.tree.PrintWord.{PrintWord}

@@ -1,9 +1,9 @@
 -- Which trees are well formed, as tests.
 use Rattle.std.specs.Prelude.{Bool, true, false, ◌&&◌, not, nat_le, List, [], ◌∷◌, Option, Some, None}
-use Rattle.awk_grammar.specs.Tree.{Op, Tree, Leaf, Length, Var, Index, Field, Group, Call, Apply, Unary, Pre, Post, Bin, Has, HasList, Cond, Get, GetInto, GetFrom, GetIntoFrom, Trees, NoTree, Then, op_left, op_right, op_allowed, level, edge, is_field, fits, takes, suits}
+use Rattle.awk_grammar.specs.Tree.{op_left, op_right, op_allowed, level, edge, is_field, fits, takes, suits}
+use Rattle.awk_grammar.specs.Trees.{Op, Tree, Leaf, Length, Var, Index, Field, Group, Call, Apply, Unary, Pre, Post, Bin, Has, HasList, Cond, Get, GetInto, GetFrom, GetIntoFrom, Trees, NoTree, Then, Printing, Print, Printf, Args, NoArgs, Listed, Enclosed, Target, NoTarget, Written, Appended, Plain, Eval, Put, Delete, Clear, Stmt, Block, Empty, Simple, If, IfElse, While, Do, For, ForIn, Jumping, Leave, Stmts, NoStmt, And, Pattern, One, Between, Item, Function, Begin, End, Always, When, Lone, Nothing}
 use Rattle.awk_grammar.specs.Shape.{view_next, head_of, behind, may_join}
-use Rattle.awk_grammar.specs.Stmt.{Printing, Print, Printf, Args, NoArgs, Listed, Enclosed, Target, NoTarget, Written, Appended, Plain, Eval, Put, Delete, Clear, Stmt, Block, Empty, Simple, If, IfElse, While, Do, For, ForIn, Jumping, Leave, Stmts, NoStmt, And, dangles}
-use Rattle.awk_grammar.specs.Item.{Pattern, One, Between, Item, Function, Begin, End, Always, When, Lone, Nothing}
+use Rattle.awk_grammar.specs.Stmt.{dangles}
 
 -- whether the operator may stand between the operands
 abbrev pub joins : Bool → Op → Tree → Tree → Bool

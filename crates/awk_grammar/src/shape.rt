@@ -1,7 +1,8 @@
 //! What the grammar asks of an expression where it stands.
 
 ghost use Rattle.std.specs.Prelude.{◌≡◌, nat_le};
-ghost use Rattle.awk_grammar.specs.Tree.{level, edge, takes, is_field, fits, op_level, op_edge, op_left, op_right, op_allowed, suits, count, is_var, within, second_is_var, third_is_lvalue};
+ghost use Rattle.awk_grammar.specs.Tree.{level, edge, takes, is_field, fits, op_level, op_edge, op_left, op_right, op_allowed, suits, is_var, within, second_is_var, third_is_lvalue};
+ghost use Rattle.awk_grammar.specs.Trees.{count};
 ghost use Rattle.awk_grammar.specs.Shape.{view_next, head_of, behind, may_join};
 ghost use Rattle.awk_grammar.specs.View.{view, views, view_binary, view_unary};
 

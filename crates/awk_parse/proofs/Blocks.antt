@@ -4,7 +4,7 @@ use Rattle.std.specs.declared.boxed.Box.{Box}
 use Rattle.std.specs.declared.alloc.Global.{Global}
 use Rattle.awk_grammar.specs.Token.{Token}
 use Rattle.awk_grammar.specs.Reading.{◌>>=◌}
-use Rattle.awk_grammar.specs.Stmt.{Stmts, NoStmt, And, Stmt as PlainStmt}
+use Rattle.awk_grammar.specs.Trees.{Stmts, NoStmt, And, Stmt as PlainStmt}
 use Rattle.awk_grammar.specs.ReadStmt.{Read, StmtReader, brace_at, stmts_at}
 use Rattle.awk_grammar.specs.ViewStmt.{view_stmt, view_stmts}
 use Rattle.awk_grammar.specs.declared.tree.Stmt.{Stmt}

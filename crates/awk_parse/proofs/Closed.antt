@@ -3,7 +3,7 @@ use Rattle.std.proofs.Common.{◌≡◌, Option, Some, sym, subst, ◌∙◌}
 use Rattle.std.specs.declared.boxed.Box.{Box}
 use Rattle.std.specs.declared.alloc.Global.{Global}
 use Rattle.awk_grammar.specs.Reading.{Reader}
-use Rattle.awk_grammar.specs.Stmt.{Stmt, IfElse}
+use Rattle.awk_grammar.specs.Trees.{Stmt, IfElse}
 use Rattle.awk_grammar.specs.View.{view}
 use Rattle.awk_grammar.specs.ViewStmt.{view_stmt}
 use Rattle.awk_grammar.specs.declared.tree.Expr.{Expr}

@@ -2,7 +2,8 @@
 use Rattle.std.proofs.Common.{◌≡◌, ℕ, Bool, Option, Some, None, List, ◌∷◌, refl, subst}
 use Rattle.std.specs.Prelude.{MatchOption}
 use Rattle.awk_grammar.specs.Token.{Token, Open}
-use Rattle.awk_grammar.specs.Tree.{Tree, Mode}
+use Rattle.awk_grammar.specs.Tree.{Mode}
+use Rattle.awk_grammar.specs.Trees.{Tree}
 use Rattle.awk_grammar.specs.Reading.{◌>>=◌, Reader, Link, after, open_at, call_by, from_by, less_at}
 use Rattle.awk_grammar.specs.ReadStmt.{open_here}
 use Rattle.awk_grammar.specs.View.{view}

@@ -4,7 +4,7 @@ use Rattle.std.specs.Prelude.{MatchOption}
 use Rattle.std.specs.declared.boxed.Box.{Box}
 use Rattle.std.specs.declared.alloc.Global.{Global}
 use Rattle.awk_grammar.specs.Token.{Token}
-use Rattle.awk_grammar.specs.Stmt.{Empty}
+use Rattle.awk_grammar.specs.Trees.{Empty}
 use Rattle.awk_grammar.specs.ReadStmt.{Read}
 use Rattle.awk_grammar.specs.ViewStmt.{view_stmt}
 use Rattle.awk_grammar.specs.declared.tree.Stmt.{Stmt}

@@ -3,7 +3,7 @@ use Rattle.std.proofs.Common.{◌≡◌, ℕ, suc, ◌+◌, ◌-◌, ◌<◌, Op
 use Rattle.std.proofs.lemmas.List.{append-nil}
 use Rattle.awk_grammar.specs.Token.{Token, Fault, Syntax, Name, OpenBrace, Semicolon}
 use Rattle.awk_grammar.specs.Reading.{◌>>=◌, name_at}
-use Rattle.awk_grammar.specs.Item.{Item, Pattern, When, Lone}
+use Rattle.awk_grammar.specs.Trees.{Item, Pattern, When, Lone}
 use Rattle.awk_grammar.specs.ReadStmt.{Read, stmt_at, stmts_at, semicolon_at}
 use Rattle.awk_grammar.specs.ReadItem.{function_by, function_at, body_at, action_at, item_at, items_at, script_at}
 use Rattle.awk_grammar.specs.ViewStmt.{view_item, view_items}

@@ -1,6 +1,6 @@
 -- The depth of a tree as it is counted.
 use Rattle.std.specs.Prelude.{ℕ, List, min}
-use Rattle.awk_grammar.specs.Tree.{depth, depths}
+use Rattle.awk_grammar.specs.Trees.{depth, depths}
 use Rattle.awk_grammar.specs.View.{view, views}
 use Rattle.awk_grammar.specs.declared.tree.Expr.{Expr}
 

@@ -4,8 +4,7 @@ use Rattle.awk_tokens.specs.Cutting.{Spelled}
 use Rattle.awk_tokens.specs.declared.reserved_words.Keyword.TheVariants.{Break as BreakWord, Continue as ContinueWord, Next as NextWord, NextFile as NextFileWord, Return as ReturnWord}
 use Rattle.awk_tokens.specs.declared.token.TokenKind.{TokenKind}
 use Rattle.awk_tokens.specs.declared.token.TokenKind.TheVariants.{Keyword}
-use Rattle.awk_grammar.specs.Stmt.{Jump, Break, Continue, Next, NextFile, Leaving, Exit, Return, Stmt, Block, Empty, Simple, If, IfElse, While, Do, For, ForIn, Jumping, Leave, Stmts, NoStmt, And}
-use Rattle.awk_grammar.specs.Item.{Item, Function, Begin, End, Always, When, Lone, Nothing}
+use Rattle.awk_grammar.specs.Trees.{Jump, Break, Continue, Next, NextFile, Leaving, Exit, Return, Stmt, Block, Empty, Simple, If, IfElse, While, Do, For, ForIn, Jumping, Leave, Stmts, NoStmt, And, Item, Function, Begin, End, Always, When, Lone, Nothing}
 use Rattle.awk_parse.specs.declared.placed.Place.{Place}
 use Rattle.awk_parse.specs.declared.placed.Place.TheVariants.{InFunction, InBeginOrEnd, InRule}
 

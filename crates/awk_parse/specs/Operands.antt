@@ -1,7 +1,8 @@
 -- The reader's cases, each by itself.
 use Rattle.std.specs.Prelude.{ℕ, Bool, true, List, Option, Some, None, Ok, if◌then◌else◌, ◌&&◌}
 use Rattle.awk_grammar.specs.Token.{Token, Step}
-use Rattle.awk_grammar.specs.Tree.{Tree, Trees, NoTree, Then, Has, HasList, Cond, Mode, Whole, LValue, normal, fits}
+use Rattle.awk_grammar.specs.Tree.{Mode, Whole, LValue, normal, fits}
+use Rattle.awk_grammar.specs.Trees.{Tree, Trees, NoTree, Then, Has, HasList, Cond}
 use Rattle.awk_grammar.specs.Reading.{◌>>=◌, Read, Reader, Link, paren_by, comma_at, close_at, in_at, name_at, colon_at, link_at, stops, step_at, fitting, posted, checked}
 use Rattle.awk_grammar.specs.View.{view}
 use Rattle.awk_parse.specs.declared.deep.Part.{Part}

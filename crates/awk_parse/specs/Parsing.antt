@@ -1,7 +1,7 @@
 -- What the parser answers.
 use Rattle.std.specs.Prelude.{◌≡◌, ℕ, ◌≤◌, Option, Some, None, List}
 use Rattle.awk_tokens.specs.Cutting.{Spelled}
-use Rattle.awk_grammar.specs.Item.{Item, most_depth, script_depth}
+use Rattle.awk_grammar.specs.Trees.{Item, most_depth, script_depth}
 use Rattle.awk_grammar.specs.TreeOf.{IsTreeOf}
 use Rattle.awk_parse.specs.Scan.{scan}
 use Rattle.awk_parse.specs.Jumps.{script_jumps, jump_lines, first_misplaced}

@@ -2,12 +2,11 @@
 use Rattle.std.specs.Prelude.{ℕ, true, List, ◌∷◌, map, Option, Some, None, Ok}
 use Rattle.awk_tokens.specs.Views.{spelled}
 use Rattle.awk_grammar.specs.Token.{Token, Infix, Compare, Greater, Append, OpenBrace, Semicolon, Key, FunctionWord, BeginWord, EndWord, PrintWord, PrintfWord, DeleteWord, IfWord, WhileWord, DoWord, ForWord, BreakWord, ContinueWord, NextWord, NextFileWord, ExitWord, ReturnWord}
-use Rattle.awk_grammar.specs.Tree.{Tree, AfterCompare}
+use Rattle.awk_grammar.specs.Tree.{AfterCompare}
+use Rattle.awk_grammar.specs.Trees.{Tree, Printing, Print, Printf, Target, NoTarget, Written, Appended, Plain, Delete, Clear, Jump, Break, Continue, Next, NextFile, Leaving, Exit, Return, Stmt, Empty, Stmts, Item, Begin, End, Always, Nothing}
 use Rattle.awk_grammar.specs.Lexeme.{spoken_after}
 use Rattle.awk_grammar.specs.Reading.{◌>>=◌, Reader, list_at, bracket_at}
-use Rattle.awk_grammar.specs.Stmt.{Printing, Print, Printf, Target, NoTarget, Written, Appended, Plain, Delete, Clear, Jump, Break, Continue, Next, NextFile, Leaving, Exit, Return, Stmt, Empty, Stmts}
 use Rattle.awk_grammar.specs.ReadStmt.{Read, StmtReader, put_at, delete_at, eval_at, block_at, if_at, jump_at, leave_at, simple_at}
-use Rattle.awk_grammar.specs.Item.{Item, Begin, End, Always, Nothing}
 use Rattle.awk_grammar.specs.ReadItem.{body_at, function_at, rule_at}
 use Rattle.awk_grammar.specs.ViewStmt.{view_word, view_jump, view_leaving}
 use Rattle.awk_parse.specs.declared.statement_start.Redirection.{Redirection}

@@ -1,7 +1,7 @@
 //! Expressions with their depths.
 
 ghost use Rattle.std.specs.Prelude.{◌≡◌, []};
-ghost use Rattle.awk_grammar.specs.Tree.{Length};
+ghost use Rattle.awk_grammar.specs.Trees.{Length};
 ghost use Rattle.awk_grammar.specs.View.{view};
 ghost use Rattle.awk_parse.specs.Depths.{capped, tree_depth, trees_depth};
 

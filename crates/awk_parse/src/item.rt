@@ -2,7 +2,7 @@
 
 ghost use Rattle.std.specs.Prelude.{true, length, map};
 ghost use Rattle.awk_tokens.specs.Views.{spelled};
-ghost use Rattle.awk_grammar.specs.Item.{most_depth};
+ghost use Rattle.awk_grammar.specs.Trees.{most_depth};
 ghost use Rattle.awk_grammar.specs.Lexeme.{spoken_after};
 ghost use Rattle.awk_grammar.specs.ReadItem.{body_at, names_at, params_at, function_at, pattern_at, rule_at, item_at, script_at};
 ghost use Rattle.awk_grammar.specs.ViewStmt.{view_names, view_pattern, view_item, view_items, view_stmts};

@@ -2,7 +2,7 @@
 
 ghost use Rattle.std.specs.Prelude.{◌≡◌, MatchOption, Some, None};
 ghost use Rattle.awk_grammar.specs.Reading.{getting};
-ghost use Rattle.awk_grammar.specs.Tree.{Var, Index, Call, Apply, Group, Bin, Has, HasList, Cond, Then, NoTree};
+ghost use Rattle.awk_grammar.specs.Trees.{Var, Index, Call, Apply, Group, Bin, Has, HasList, Cond, Then, NoTree};
 ghost use Rattle.awk_grammar.specs.View.{view, views};
 ghost use Rattle.awk_parse.specs.Operands.{followed_by, view_variable};
 ghost use Rattle.awk_parse.specs.Seen.{view_infix};

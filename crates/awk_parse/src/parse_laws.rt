@@ -2,7 +2,7 @@
 ghost use Rattle.std.specs.Prelude.{◌≡◌, ◌↔◌, ℕ, IsTrue, List, length};
 ghost use Rattle.awk_tokens.specs.Cutting.{Spelled};
 ghost use Rattle.awk_tokens.specs.Numbers.{is_number};
-ghost use Rattle.awk_grammar.specs.Item.{Item};
+ghost use Rattle.awk_grammar.specs.Trees.{Item};
 ghost use Rattle.awk_grammar.specs.TreeOf.{IsTreeOf};
 ghost use Rattle.awk_parse.specs.Jumps.{jump_lines, script_jumps};
 ghost use Rattle.awk_parse.specs.Numbers.{IsUnsigned};

@@ -2,7 +2,7 @@
 
 ghost use Rattle.std.specs.Prelude.{◌≡◌, IfOk, IfErr, IfSome, MatchResult, List, map};
 ghost use Rattle.awk_tokens.specs.Views.{spelled};
-ghost use Rattle.awk_grammar.specs.Item.{Item, most_depth};
+ghost use Rattle.awk_grammar.specs.Trees.{Item, most_depth};
 ghost use Rattle.awk_grammar.specs.ReadItem.{script_at};
 ghost use Rattle.awk_grammar.specs.ViewStmt.{view_script};
 ghost use Rattle.awk_parse.specs.Seen.{seen, Gives};

@@ -2,7 +2,7 @@
 
 ghost use Rattle.std.specs.Prelude.{◌≡◌, ◌∷◌, MatchOption, Some, None};
 ghost use Rattle.awk_grammar.specs.Lexeme.{mark_lexeme};
-ghost use Rattle.awk_grammar.specs.Tree.{Leaf};
+ghost use Rattle.awk_grammar.specs.Trees.{Leaf};
 ghost use Rattle.awk_grammar.specs.View.{view};
 ghost use Rattle.awk_parse.specs.Seen.{seen, view_mode};
 ghost use Rattle.awk_parse.specs.Starts.{start_at, view_start, view_prefix, view_literal, mode_below};

@@ -2,7 +2,7 @@
 
 ghost use Rattle.std.specs.Prelude.{◌≡◌, MatchOption, None, Some};
 ghost use Rattle.awk_grammar.specs.Reading.{expr_at};
-ghost use Rattle.awk_grammar.specs.Stmt.{Block};
+ghost use Rattle.awk_grammar.specs.Trees.{Block};
 ghost use Rattle.awk_grammar.specs.ViewStmt.{view_stmt, view_stmts};
 ghost use Rattle.awk_parse.specs.Parsed.{at, Parsed, is_read};
 ghost use Rattle.awk_parse.specs.Bodies.{Held, view_boxed, view_lead, closed_at};

@@ -2,7 +2,7 @@
 use Rattle.std.proofs.Common.{◌≡◌, Bool, true, false, List, refl, sym, ap, subst, ◌∙◌}
 use Rattle.std.specs.Prelude.{IsTrue}
 use Rattle.std.proofs.Math.Path.{fun_ext}
-use Rattle.awk_grammar.specs.Item.{Item}
+use Rattle.awk_grammar.specs.Trees.{Item}
 use Rattle.awk_grammar.specs.Marks.{Array, Kind, Scalar, script_marks}
 use Rattle.awk_grammar.specs.Least.{IsLeast}
 use Rattle.awk_grammar.specs.Kinds.{Key, heads, is_used_as, members, pairs, refusal, resolved, same_key}

@@ -1,7 +1,7 @@
 -- The kinds of a script's names, by two least sets of variables (POSIX.1-2017 awk, "Variables and Special Variables" and "User-Defined Functions").
 use Rattle.std.specs.Prelude.{Bool, List, Option}
 use Rattle.std.specs.Option.{option_map}
-use Rattle.awk_grammar.specs.Item.{Item}
+use Rattle.awk_grammar.specs.Trees.{Item}
 use Rattle.awk_grammar.specs.Marks.{Kind, script_marks}
 use Rattle.awk_grammar.specs.Least.{IsLeast}
 use Rattle.awk_grammar.specs.Kinds.{Key, KindClash, Refusal, Resolved, clash, first, functions_by, globals_by, heads, members, name_refusal, or_else, pairs, variables}

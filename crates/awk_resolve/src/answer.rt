@@ -1,7 +1,7 @@
 //! From a script to the kinds of its names.
 
 ghost use Rattle.std.specs.Prelude.{◌≡◌, List, None, IfOk, IfErr, OnOk};
-ghost use Rattle.awk_grammar.specs.Item.{Item};
+ghost use Rattle.awk_grammar.specs.Trees.{Item};
 ghost use Rattle.awk_grammar.specs.ViewStmt.{view_script};
 ghost use Rattle.awk_grammar.specs.Marks.{Kind, script_marks};
 ghost use Rattle.awk_grammar.specs.Least.{IsLeast};

@@ -1,6 +1,6 @@
 //! The kinds of a script's names are two least sets. Each law is the contract of a function that does nothing.
 ghost use Rattle.std.specs.Prelude.{◌≡◌, ◌↔◌, Bool, List};
-ghost use Rattle.awk_grammar.specs.Item.{Item};
+ghost use Rattle.awk_grammar.specs.Trees.{Item};
 ghost use Rattle.awk_grammar.specs.Marks.{Array, Kind, Scalar, script_marks};
 ghost use Rattle.awk_grammar.specs.Kinds.{Key, heads, is_used_as, refusal, resolved};
 ghost use Rattle.awk_resolve.specs.Sets.{AreUsedAs, names_by, refusal_by};

@@ -1,7 +1,7 @@
 //! The marks of an expression.
 
 ghost use Rattle.std.specs.Prelude.{◌≡◌, ◌++◌, ◌∷◌, []};
-ghost use Rattle.awk_grammar.specs.Tree.{Index, Call};
+ghost use Rattle.awk_grammar.specs.Trees.{Index, Call};
 ghost use Rattle.awk_grammar.specs.View.{view, views};
 ghost use Rattle.awk_grammar.specs.Marks.{Array, Computed, Given, Used, bare_name, array_name, computed_marks, named_or, unless_named, marks, all_marks, argument_marks, operand_marks};
 ghost use Rattle.awk_resolve.specs.View.{view_place, AddsMarks};

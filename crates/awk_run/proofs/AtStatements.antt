@@ -17,7 +17,7 @@ use Rattle.wasm_machine.specs.StatementAt.{IsStatementAt, code_in, is_nop}
 use Rattle.wasm_machine.specs.declared.places.Place.{Place}
 use Rattle.wasm_machine.proofs.WorkingCode.{AtWork, at_work}
 use Rattle.agreement.specs.Places.Statements.{starts_in}
-use Rattle.awk_run.specs.Counted.{nop_at, nops_from, nops_of}
+use Rattle.script_places.specs.Passes.{nop_at, nops_from, nops_of}
 use Rattle.awk_run.proofs.Reading.{code_of_place}
 
 kind_of : (f : Form) → (f ≡ Plain Nop) ⊎ ((is_nop f ≡ false) × ((p : ℕ) → nop_at p f ≡ []))

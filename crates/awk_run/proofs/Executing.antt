@@ -23,7 +23,8 @@ use Rattle.agreement.specs.Modules.TableMeaning.{table_meaning}
 use Rattle.agreement.specs.Passed.Passed.{Probe, ProbedSteps, no_probe, probed_at}
 use Rattle.agreement.proofs.RunsLemmas.Carried.{over_untold, same_state, step_carried}
 use Rattle.agreement.proofs.RunsLemmas.Following.{ShownAfter, table_follows}
-use Rattle.awk_run.specs.Counted.{Moment, Stepped}
+use Rattle.awk_run.specs.Counted.{Stepped}
+use Rattle.script_places.specs.Passes.{Moment}
 use Rattle.awk_run.specs.Executions.{ComesToEnd}
 
 -- Probes.

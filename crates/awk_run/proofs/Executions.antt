@@ -35,7 +35,8 @@ use Rattle.lower_model.specs.Modules.{module_of}
 use Rattle.lower_model.proofs.CodeFollows.{code_follows}
 use Rattle.script_compiler.specs.Compiled.{IsCompiled}
 use Rattle.run_report.specs.declared.counts.RunCounts.{RunCounts}
-use Rattle.awk_run.specs.Counted.{IsCountedIn, IsCountedOf, Moment, Stepped}
+use Rattle.awk_run.specs.Counted.{IsCountedIn, IsCountedOf, Stepped}
+use Rattle.script_places.specs.Passes.{Moment}
 use Rattle.awk_run.specs.Executions.{Choice, ComesToEnd, Executes, ExecutesSoFar, HasExecuted, begun_at, begun_in, end_of, marking, passed_by, script_run, times_begun, times_passed}
 use Rattle.awk_run.proofs.PassedPlaces.{none_passed, one_more_passed, one_passed, settled_same}
 use Rattle.awk_run.proofs.Settling.{none_settled}

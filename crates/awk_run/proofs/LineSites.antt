@@ -7,7 +7,7 @@ use Rattle.wasm_machine.specs.declared.places.Place.{Place}
 use Rattle.script_lines.specs.Lines.{FunctionForm}
 use Rattle.run_report.specs.declared.whereabouts.CallSite.{CallSite}
 use Rattle.awk_run.specs.ModuleSeen.{AreLineSites, IsLineSite}
-use Rattle.awk_run.proofs.Sites.{one_more}
+use Rattle.script_places.proofs.SiteLemmas.{one_more}
 
 module _ (table : List FunctionForm) (program : ProgramForm) (conf : Conf) where
   pub no_line_sites : AreLineSites table program conf []

@@ -17,7 +17,7 @@ use Rattle.wasm_machine.specs.Places.{StandsAt}
 use Rattle.wasm_machine.specs.StatementAt.{BeginsNone}
 use Rattle.agreement.specs.Places.NoLeaks.{begins_statement}
 use Rattle.agreement.specs.Places.Statements.{starts_in}
-use Rattle.awk_run.specs.Counted.{Moment, entry, nops_from, nops_in, nops_of, passes, stood, times_at}
+use Rattle.script_places.specs.Passes.{Moment, entry, nops_from, nops_in, nops_of, passes, stood, times_at}
 use Rattle.awk_run.specs.Executions.{Choice, begun_at, passed_from, passed_in, times_passed}
 use Rattle.awk_run.proofs.Reading.{Matches, matched}
 

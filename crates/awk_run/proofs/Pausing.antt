@@ -1,6 +1,6 @@
 -- Two runs of one machine, of which the first paused, are one run of all its steps.
-use Rattle.std.proofs.Common.{◌≡◌, ◌≢◌, ◌≤◌, ◌+◌, ◌-◌, ℕ, false, Option, Some, None, Result, Ok, Err, subst, arith}
-use Rattle.std.specs.Prelude.{IfOk, IfSome}
+use Rattle.std.proofs.Common.{◌≡◌, ◌≢◌, ◌≤◌, ◌+◌, ◌-◌, ℕ, false, Option, Some, None, subst, arith}
+use Rattle.std.specs.Prelude.{IfSome}
 use Rattle.wasm_model.specs.Hosts.{Meaning}
 use Rattle.wasm_model.specs.Machines.{Asks, Conf, Ends, Goes, ProgramForm, Turn, turn}
 use Rattle.wasm_model.specs.Runs.{Did, Steps, TakenAs}
@@ -30,10 +30,6 @@ module _ {H O : Type 0} (M : Meaning H O) (m : ProgramForm) (steps left : ℕ) (
 pub of_some : {A : Type 0} {P Q : A → Type 0} (found : Option A) → ((x : A) → P x → Q x) → IfSome found P → IfSome found Q
 of_some None f h = tt
 of_some (Some x) f h = f x h
-
-pub of_ok : {A E : Type 0} {P Q : A → Type 0} (r : Result A E) → ((x : A) → P x → Q x) → IfOk r P → IfOk r Q
-of_ok (Ok x) f h = f x h
-of_ok (Err e) f h = tt
 
 -- the call of the host that was the last step, of the steps that were taken
 pub fault_step : (tells : Type 0) (m : ProgramForm) (steps left : ℕ) (c : Conf) (first : HostForm) (d : Conf) (last : HostForm)

@@ -15,8 +15,8 @@ use Rattle.wasm_machine.specs.declared.places.Place.{Place}
 use Rattle.lower_model.specs.Boundaries.{is_nop}
 use Rattle.lower_model.specs.Small.{emit}
 use Rattle.agreement.specs.Places.Statements.{starts_in, starts_of}
-use Rattle.awk_run.specs.Counted.{nops_from, nops_of}
-use Rattle.awk_run.proofs.Walking.{nops_append}
+use Rattle.script_places.specs.Passes.{nops_from, nops_of}
+use Rattle.script_places.proofs.Walking.{nops_append}
 
 -- Past a body, and past an instruction.
 

@@ -23,6 +23,7 @@ use Rattle.awk_run.specs.ScriptRuns.{DoesFound, IsScriptRun, ScriptAnswers, told
 use Rattle.run_report.specs.declared.end.Refusal.TheVariants.{Compile, Decode, Invalid, Link}
 use Rattle.run_report.specs.declared.end.RunEnd.{RunEnd}
 use Rattle.run_report.specs.declared.end.RunEnd.TheVariants as run
+use Rattle.awk_run.proofs.Runs.{has_so, untouched_so}
 
 -- what a machine's end says of a script, its answer says
 says : (kept : Option Fault) (t : MachineEnd) (output : List Action) (ending : Ending) → Says (told_by kept t) output ending
@@ -39,9 +40,9 @@ abbrev Does : {bytes v : List ℕ} → IsCompiled bytes v → JobForm → State 
 Does c job before e after = DoesSo (resolved_run (resolved c.script)) job (before.readers 0) before.outside (told_of e) after.outside
 
 -- a run of the module, as the script's
-did : (tells : Type 0) (bytes v : List ℕ) (c : IsCompiled bytes v) (job : JobForm) (steps : ℕ) (before after : State) (e : RunEnd)
-    → IsRunOf tells c.whole job steps before e after → tells → Does c job before e after
-did tells bytes v c job steps before after e r t =
+did : (tells : Type 0) (given : List Action → Type 0) (bytes v : List ℕ) (c : IsCompiled bytes v) (job : JobForm) (steps : ℕ) (before after : State) (e : RunEnd)
+    → IsRunOf tells given c.whole job steps before e after → tells → Does c job before e after
+did tells given bytes v c job steps before after e r t =
     let d = does_so (resolved_run (resolved c.script)) c.whole c.agreement job (before.readers 0) before.outside steps r.told r.left (r.over_table t) in
     record {
       turns = d.turns;
@@ -61,9 +62,9 @@ ran_out kept machine.NoMemory q = cc
 ran_out kept (machine.Trapped kind) q = cc
 
 -- and in every world, where it finds what some list says
-there : (tells : Type 0) (bytes v : List ℕ) (c : IsCompiled bytes v) (job : JobForm) (steps : ℕ) (before after : State) (e : RunEnd)
-    (r : IsRunOf tells c.whole job steps before e after) → DoesFound (resolved_run (resolved c.script)) job c.agreement.bound steps e (run_output r)
-there tells bytes v c job steps before after e r =
+there : (tells : Type 0) (given : List Action → Type 0) (bytes v : List ℕ) (c : IsCompiled bytes v) (job : JobForm) (steps : ℕ) (before after : State) (e : RunEnd)
+    (r : IsRunOf tells given c.whole job steps before e after) → DoesFound (resolved_run (resolved c.script)) job c.agreement.bound steps e (run_output r)
+there tells given bytes v c job steps before after e r =
     let script = resolved_run (resolved c.script) in
     let found = r.there in
     let out = run_output r in
@@ -92,26 +93,26 @@ links_fully m link.NoMemory l r = r.0 refl
 
 -- What is answered.
 
-module _ (tells : Type 0) (bytes v : List ℕ) (job : JobForm) (steps : ℕ) (before after : State) (c : IsCompiled bytes v) where
+module _ (tells : Type 0) (given : List Action → Type 0) (bytes v : List ℕ) (job : JobForm) (steps : ℕ) (before after : State) (c : IsCompiled bytes v) where
   same : (h : ModuleForm) → IsModule v h → h ≡ c.whole
   same h r = one_module v h c.whole r c.spelled
 
   -- what the module did, and so the script
-  abbrev AsScript : (e : RunEnd) (whole : ModuleForm) → IsRunOf tells whole job steps before e after → Type 0
+  abbrev AsScript : (e : RunEnd) (whole : ModuleForm) → IsRunOf tells given whole job steps before e after → Type 0
   AsScript e whole r = (tells → Does c job before e after) × DoesFound (resolved_run (resolved c.script)) job c.agreement.bound steps e (run_output r)
 
-  as_script : (e : RunEnd) (whole : ModuleForm) → c.whole ≡ whole → (r : IsRunOf tells whole job steps before e after) → AsScript e whole r
-  as_script e whole is = subst (λ (w : ModuleForm). (r : IsRunOf tells w job steps before e after) → AsScript e w r) is (λ r. (
-    did tells bytes v c job steps before after e r,
-    there tells bytes v c job steps before after e r,
+  as_script : (e : RunEnd) (whole : ModuleForm) → c.whole ≡ whole → (r : IsRunOf tells given whole job steps before e after) → AsScript e whole r
+  as_script e whole is = subst (λ (w : ModuleForm). (r : IsRunOf tells given w job steps before e after) → AsScript e w r) is (λ r. (
+    did tells given bytes v c job steps before after e r,
+    there tells given bytes v c job steps before after e r,
   ))
 
-  ran_run : (e : RunEnd) → HasRun tells v job steps before e after → IsScriptRun tells bytes job steps before e after
+  ran_run : (e : RunEnd) → HasRun tells given v job steps before e after → IsScriptRun tells given bytes job steps before e after
   ran_run e h =
       let x = as_script e h.whole (sym (same h.whole h.read)) h.run in
       record { compiled = v; is_compiled = c; ran = h; does = x.0; there = x.1 }
 
-  pub script_answers : (e : RunEnd) → Answers tells v job steps before e after → ScriptAnswers tells bytes job steps before e after
+  pub script_answers : (e : RunEnd) → Answers tells given v job steps before e after → ScriptAnswers tells given bytes job steps before e after
   script_answers (run.Refused (Compile f)) r = absurd r
   script_answers (run.Refused (Decode f)) r = r.0.1 c.whole c.spelled
   script_answers (run.Refused (Invalid f)) r = r.0.untyped (subst ModuleOk (sym (same r.0.whole r.0.read)) c.typed)
@@ -123,3 +124,28 @@ module _ (tells : Type 0) (bytes v : List ℕ) (job : JobForm) (steps : ℕ) (be
   script_answers run.OutOfSteps h = ran_run run.OutOfSteps h
   script_answers run.Exhausted h = ran_run run.Exhausted h
   script_answers (run.Trapped k) h = ran_run (run.Trapped k) h
+
+-- what was known of an output, so that something else is
+module _ (tells : Type 0) (given known : List Action → Type 0) (so : (output : List Action) → given output → known output) (bytes : List ℕ) (job : JobForm)
+    (steps : ℕ) (before after : State) where
+  script_so : (e : RunEnd) → IsScriptRun tells given bytes job steps before e after → IsScriptRun tells known bytes job steps before e after
+  script_so e r = record {
+    compiled = r.compiled;
+    is_compiled = r.is_compiled;
+    ran = has_so tells given known so r.compiled job steps before after e r.ran;
+    does = r.does;
+    there = r.there;
+  }
+
+  pub script_answers_so : (e : RunEnd) → ScriptAnswers tells given bytes job steps before e after → ScriptAnswers tells known bytes job steps before e after
+  script_answers_so (run.Refused (Compile f)) r = (r.0, r.1, untouched_so given known so before after r.2)
+  script_answers_so (run.Refused (Decode f)) r = r
+  script_answers_so (run.Refused (Invalid f)) r = r
+  script_answers_so (run.Refused (Link f)) r = r
+  script_answers_so run.NoMemory (inl r) = inl (script_so run.NoMemory r)
+  script_answers_so run.NoMemory (inr u) = inr (untouched_so given known so before after u)
+  script_answers_so (run.Ended n) r = script_so (run.Ended n) r
+  script_answers_so (run.Faulted f) r = script_so (run.Faulted f) r
+  script_answers_so run.OutOfSteps r = script_so run.OutOfSteps r
+  script_answers_so run.Exhausted r = script_so run.Exhausted r
+  script_answers_so (run.Trapped k) r = script_so (run.Trapped k) r

@@ -7,7 +7,7 @@ use Rattle.awk_parse.specs.Parsing.{IsParsed, misplaced}
 use Rattle.awk_parse.specs.declared.fault.ParseFault.{ParseFault}
 use Rattle.awk_parse.specs.declared.fault.ParseFault.TheVariants.{LeftOut, NotWhole, ConstantRange, Syntax, TooDeep, Misplaced}
 use Rattle.awk_parse.specs.declared.fault.ParseFault.TheVariants as parsing
-use Rattle.awk_grammar.specs.Item.{Item}
+use Rattle.awk_grammar.specs.Trees.{Item}
 use Rattle.awk_grammar.proofs.ItemComplete.{one_script}
 use Rattle.awk_grammar.specs.Kinds as kinds
 use Rattle.awk_grammar.specs.Kinds.{Refusal, refusal}

@@ -4,14 +4,14 @@ use Rattle.std.specs.Prelude.{slice_get}
 use Rattle.std.specs.List.{All}
 use Rattle.std.proofs.Math.Seq.{get_or-append_seam}
 use Rattle.std.proofs.lemmas.List.Elements.{All-append, All-cons, All-nil}
-use Rattle.awk_grammar.specs.Item.{Item}
+use Rattle.awk_grammar.specs.Trees.{Item}
 use Rattle.awk_grammar.specs.TreeOf.{IsTreeOf}
 use Rattle.awk_tokens.specs.Cutting.{Spelled}
 use Rattle.awk_tree.specs.Lines.{line_at, places_in}
 use Rattle.agreement.specs.Spots.SpotTexts.{IsLineOfSpot}
 use Rattle.run_report.specs.CountTexts.{at_line}
 use Rattle.run_report.specs.declared.counts.PlaceCount.{PlaceCount}
-use Rattle.awk_run.specs.Counted.{AreFirsts, IsFirst, IsFirstOf, Moment, counted_from, counted_in, passes, places_counted}
+use Rattle.script_places.specs.Passes.{AreFirsts, IsFirst, IsFirstOf, Moment, counted_from, counted_in, passes, places_counted}
 use Rattle.awk_run.specs.SpotPlaces.{IsCountOfSpot}
 use Rattle.awk_run.proofs.SpotLines.{has_spot, line_is_spots}
 

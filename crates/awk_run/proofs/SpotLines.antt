@@ -5,8 +5,8 @@ use Rattle.awk_tokens.specs.Cutting.{Spelled}
 use Rattle.awk_grammar.specs.Lexeme.{is_function, spoken, spoken_after}
 use Rattle.awk_grammar.specs.Token.{BeginWord, EndWord, Token, Comma, Semicolon, Key}
 use Rattle.awk_grammar.specs.Tree.{print}
-use Rattle.awk_grammar.specs.Stmt.{Stmt, Stmts, Block, Simple, Put, Print, NoArgs, NoTarget, NoStmt}
-use Rattle.awk_grammar.specs.Item.{One, Between as Range, Pattern, Item, Function, Begin, End, Always, When, Lone, Nothing, print_item, print_pattern, print_script}
+use Rattle.awk_grammar.specs.Trees.{Stmt, Stmts, Block, Simple, Put, Print, NoArgs, NoTarget, NoStmt, One, Between as Range, Pattern, Item, Function, Begin, End, Always, When, Lone, Nothing}
+use Rattle.awk_grammar.specs.Item.{print_item, print_pattern, print_script}
 use Rattle.awk_grammar.specs.TreeOf.{IsTreeOf}
 use Rattle.sem_scripts.specs.Items.{print_record, pattern_ranges}
 use Rattle.agreement.specs.Spots.InOrder.{Spot, at_home, begin_spots, end_spots, function_spots, functions_spots, main_spots, pattern_spots, record_spots, spots_in, stmt_spots, stmts_spots}

@@ -2,7 +2,7 @@
 use Rattle.std.proofs.Common.{◌≡◌, ℕ, List, Option, Some, None, Ok, map, refl, sym, ap, ◌∙◌, subst}
 use Rattle.std.specs.Prelude.{option_map, slice_get}
 use Rattle.std.proofs.lemmas.Option.{slice_get-map}
-use Rattle.awk_grammar.specs.Item.{Item}
+use Rattle.awk_grammar.specs.Trees.{Item}
 use Rattle.awk_parse.specs.Parsing.{IsParsed}
 use Rattle.awk_tokens.specs.Cutting.{IsTokens, Spelled}
 use Rattle.module_decoder.proofs.CompleteModule.{one_module}
@@ -19,7 +19,7 @@ use Rattle.agreement.specs.Spots.Places.{final_program}
 use Rattle.agreement.specs.Spots.Probed.{module_place}
 use Rattle.agreement.proofs.SpotsLemmas.InOrder.{module_so}
 use Rattle.script_compiler.specs.Compiled.{IsCompiled}
-use Rattle.awk_run.specs.Counted.{nops_of}
+use Rattle.script_places.specs.Passes.{nops_of}
 use Rattle.awk_run.specs.SpotPlaces.{IsOfSpot}
 use Rattle.awk_run.proofs.Reading.{stands_at_place}
 use Rattle.awk_run.proofs.Sound.{same_script, same_tokens}

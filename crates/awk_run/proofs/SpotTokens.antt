@@ -1,7 +1,8 @@
 -- The places of a script, which are counted in tokens, are those of its spots: before the text from each spot on there are so many tokens.
 use Rattle.std.proofs.Common.{◌≡◌, ℕ, ◌<◌, List, [], ◌∷◌, ◌++◌, Option, Some, None, length, length-append, append_assoc, refl, sym, ap, ◌∙◌, subst, arith}
 use Rattle.awk_grammar.specs.Token.{IfWord, ElseWord, WhileWord, DoWord, Token, Close, OpenBrace, CloseBrace, Semicolon, Key}
-use Rattle.awk_grammar.specs.Stmt.{Plain, NextFile, Break, Continue, Next, Stmt, Block, Empty, Simple, If, IfElse, While, Do, For, ForIn, Jumping, Leave, Stmts, NoStmt, And, print_maybe, print_maybe_plain, print_plain, print_stmt, print_stmts}
+use Rattle.awk_grammar.specs.Stmt.{print_maybe, print_maybe_plain, print_plain, print_stmt, print_stmts}
+use Rattle.awk_grammar.specs.Trees.{Plain, NextFile, Break, Continue, Next, Stmt, Block, Empty, Simple, If, IfElse, While, Do, For, ForIn, Jumping, Leave, Stmts, NoStmt, And}
 use Rattle.agreement.specs.Spots.InOrder.{last_spots, stmt_spots, stmts_spots}
 use Rattle.agreement.specs.Spots.Spots.{Frame, Before, Within, AfterElse, Part, Whole, First, Looping, Between, Testing, Unless, GivesUp, Leaves, StatementPath, Of}
 use Rattle.agreement.specs.Spots.SpotTexts.{frames_rest, part_text, while_test}

@@ -1,44 +1,35 @@
 -- A run that was taken a step at a time is one run.
-use Rattle.std.proofs.Common.{◌≡◌, ◌≢◌, ◌≤◌, ◌<◌, ◌+◌, ◌-◌, ◌^◌, ℕ, List, [], ◌∷◌, Option, Some, None, length, refl, sym, ap, ◌∙◌, subst, arith}
+use Rattle.std.proofs.Common.{◌≡◌, ◌≢◌, ◌≤◌, ◌<◌, ◌+◌, ◌-◌, ◌^◌, ℕ, List, ◌∷◌, Option, Some, None, refl, sym, ap, ◌∙◌, subst, arith}
 use Rattle.std.specs.Prelude.{MatchOption, max}
+use Rattle.wasm_model.specs.Hosts.{Meaning}
 use Rattle.wasm_model.specs.Machines.{Conf, ProgramForm}
 use Rattle.wasm_model.specs.Runs.{Did}
 use Rattle.wasm_model.specs.declared.ends.MachineEnd.{MachineEnd}
 use Rattle.wasm_model.specs.declared.ends.MachineEnd.TheVariants as told
-use Rattle.wasm_model.proofs.Chains.{did_less, did_on}
+use Rattle.wasm_model.proofs.Chains.{did_less}
 use Rattle.host_values.specs.Forms.{HostForm}
 use Rattle.host_values.specs.FormMeaning.{Told, form_meaning}
 use Rattle.wasm_machine.specs.Places.{StandsAt, frame_at}
 use Rattle.wasm_machine.specs.declared.places.Place.{Place}
-use Rattle.awk_run.specs.Counted.{Moment, Stepped, values_in}
-use Rattle.awk_run.specs.Tallied.{AreTallied, IsTallied, more_if}
-use Rattle.awk_run.proofs.Tallying.{tallied_more}
+use Rattle.awk_run.specs.Counted.{Stepped, values_in}
+use Rattle.script_places.specs.Passes.{Moment}
+use Rattle.awk_run.specs.Tallied.{IsTallied}
+use Rattle.script_places.specs.Tallies.{AreTallied, more_if}
+use Rattle.script_places.proofs.Tallying.{tallied_more}
 
-module _ (tells : Type 0) (m : ProgramForm) (c : Conf) (h : HostForm) where
-  all_steps : (xs : List Moment) (e : MachineEnd) (c' : Conf) (h' : HostForm) → Stepped tells m c h xs e c' h' → Did (form_meaning tells) m (length xs) c (Told h) e c' (Told h')
-  all_steps [] e c' h' s = s
-  all_steps (x ∷ xs) e c' h' s =
-      let size : length xs + 1 ≡ length (x ∷ xs) = omega arith in
-      subst (λ (n : ℕ). Did (form_meaning tells) m n c (Told h) e c' (Told h')) size
-      (did_on (form_meaning tells) m (length xs) 1 c (Told h) s.0 (Told s.1) e c' (Told h') (all_steps xs told.OutOfSteps s.0 s.1 s.2) s.5)
+-- a run of as many steps as were given, if it did not end before
+module _ {H O : Type 0} (M : Meaning H O) (m : ProgramForm) (c : Conf) (h : H) (steps taken : ℕ) (within : taken ≤ steps) (c' : Conf) (h' : H) where
+  longer : (e : MachineEnd) → e ≢ told.OutOfSteps → Did M m taken c h e c' h' → Did M m steps c h e c' h'
+  longer e ne d =
+      let all : taken + (steps - taken) ≡ steps = omega (arith, within) in
+      subst (λ (n : ℕ). Did M m n c h e c' h') all (did_less M m taken (steps - taken) c h e c' h' ne d)
 
-  module _ (steps taken : ℕ) (within : taken ≤ steps) (c' : Conf) (h' : HostForm) where
-    longer : (e : MachineEnd) → e ≢ told.OutOfSteps → Did (form_meaning tells) m taken c (Told h) e c' (Told h') → Did (form_meaning tells) m steps c (Told h) e c' (Told h')
-    longer e ne d =
-        let all : taken + (steps - taken) ≡ steps = omega (arith, within) in
-        subst (λ (n : ℕ). Did (form_meaning tells) m n c (Told h) e c' (Told h')) all (did_less (form_meaning tells) m taken (steps - taken) c (Told h) e c' (Told h') ne d)
-
-    as_given : (e : MachineEnd) → (e ≡ told.OutOfSteps → taken ≡ steps) → Did (form_meaning tells) m taken c (Told h) e c' (Told h') → Did (form_meaning tells) m steps c (Told h) e c' (Told h')
-    as_given told.OutOfSteps over d = subst (λ (n : ℕ). Did (form_meaning tells) m n c (Told h) told.OutOfSteps c' (Told h')) (over refl) d
-    as_given (told.Returned n) over d = longer (told.Returned n) (λ q. cc) d
-    as_given (told.Trapped k) over d = longer (told.Trapped k) (λ q. cc) d
-    as_given told.Exhausted over d = longer told.Exhausted (λ q. cc) d
-    as_given told.NoMemory over d = longer told.NoMemory (λ q. cc) d
-
-    -- so it is a run of as many steps as were given
-    pub whole_run : (xs : List Moment) (e : MachineEnd) → Stepped tells m c h xs e c' h' → length xs ≡ taken → (e ≡ told.OutOfSteps → taken ≡ steps)
-        → Did (form_meaning tells) m steps c (Told h) e c' (Told h')
-    whole_run xs e s size over = as_given e over (subst (λ (n : ℕ). Did (form_meaning tells) m n c (Told h) e c' (Told h')) size (all_steps xs e c' h' s))
+  pub as_given : (e : MachineEnd) → (e ≡ told.OutOfSteps → taken ≡ steps) → Did M m taken c h e c' h' → Did M m steps c h e c' h'
+  as_given told.OutOfSteps over d = subst (λ (n : ℕ). Did M m n c h told.OutOfSteps c' h') (over refl) d
+  as_given (told.Returned n) over d = longer (told.Returned n) (λ q. cc) d
+  as_given (told.Trapped k) over d = longer (told.Trapped k) (λ q. cc) d
+  as_given told.Exhausted over d = longer told.Exhausted (λ q. cc) d
+  as_given told.NoMemory over d = longer told.NoMemory (λ q. cc) d
 
 -- One more step, which is counted.
 

@@ -18,7 +18,8 @@ use Rattle.agreement.specs.Passed.Passed.{Probe}
 use Rattle.agreement.specs.Places.Statements.{starts_in}
 use Rattle.agreement.specs.Spots.Probed.{probed_script}
 use Rattle.run_report.specs.declared.counts.RunCounts.{RunCounts}
-use Rattle.awk_run.specs.Counted.{IsCountedIn, Moment, Stepped, nops_in, passes}
+use Rattle.awk_run.specs.Counted.{IsCountedIn, Stepped}
+use Rattle.script_places.specs.Passes.{Moment, nops_in, passes}
 
 -- Statements are chosen by their code in the module, with what comes after it in its block. So statements with the same code are chosen together.
 abbrev pub Choice : Type 0

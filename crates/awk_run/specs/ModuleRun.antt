@@ -1,8 +1,9 @@
 -- What running a module answers: why it is not run, or how its run ended and what became of the world.
-use Rattle.std.specs.Prelude.{◌≡◌, ◌≢◌, ◌⊎◌, ℕ, ℤ, pos, unsigned_abs, List, Option, Some, None, Err}
+use Rattle.std.specs.Prelude.{◌≡◌, ◌≢◌, ◌⊎◌, ℕ, ℤ, pos, unsigned_abs, List, [], Option, Some, None, Err}
 use Rattle.std.specs.Int.{int_rem_euclid}
 use Rattle.awk_values.specs.declared.fault.Fault.{Fault}
-use Rattle.world_core.specs.WorldState.{Action, State}
+use Rattle.world_core.specs.Traces.{Call, Targets, Trace, actions_of}
+use Rattle.world_core.specs.WorldState.{Action, Standard, State}
 use Rattle.wasm_types.specs.Syntax.{ModuleForm}
 use Rattle.wasm_types.specs.ModuleGrammar.{IsModule}
 use Rattle.wasm_types.specs.Typing.{ModuleOk}
@@ -65,11 +66,19 @@ IsRefused bytes _ = ⊥
 abbrev pub IsUnlinked : ModuleForm → LinkFault → Type 0
 IsUnlinked whole cause = (cause ≢ link.NoMemory) × Unlinks host_finds whole cause
 
+-- These calls were made of a world, one after another, and no others. What the world took by them is this output, to whoever knows that the stream 1 is the
+-- standard output: no other stream is written to before it is opened.
+pub record IsGiven {W : Type 0} (did : W → Call → W → Type 0) (old new : W) (output : List Action) : Type 0 where
+  pub calls : List Call
+  pub made : Trace did old calls new
+  pub are : (targets : Targets) → targets 1 ≡ Standard → actions_of calls targets ≡ output
+
 -- A run of a typed module in a job: from its beginning, over a host that shows the state at the start of the job, to a world that holds what the host
--- left. Where the world tells what it holds, this is how the module may end, and its output made what the names hold of what they held. In every
--- world it is how the module may end, with this output, in an environment that others change too, where each opening, read and write finds the next of some list;
--- where memory was wanting, with what was put out before the step that wanted it.
-pub record IsRunOf (tells : Type 0) (whole : ModuleForm) (job : JobForm) (steps : ℕ) (before : State) (e : RunEnd) (after : State) : Type 0 where
+-- left, with an output that was given so. Where the world tells what it holds, this is how the module may end, and its output made what the names hold of what
+-- they held. In every world it is how the module may end, with this output, in an environment that others change too, where each opening, read and write finds
+-- the next of some list; where memory was wanting, with what was put out before the step that wanted it.
+pub record IsRunOf (tells : Type 0) (given : List Action → Type 0) (whole : ModuleForm) (job : JobForm) (steps : ℕ) (before : State) (e : RunEnd) (after : State)
+    : Type 0 where
   pub machine : MachineForm
   pub is_new : IsNew host_finds whole machine
   pub start : HostForm
@@ -80,6 +89,7 @@ pub record IsRunOf (tells : Type 0) (whole : ModuleForm) (job : JobForm) (steps 
   pub conf : Conf
   pub left : HostForm
   pub output : List Action
+  pub gave : given output
   pub ran : Ran (form_meaning tells) machine.program steps machine.conf (Told start) output run-end conf (Told left)
   pub answered : e ≡ run_end left.fault told
   pub outside : after.outside ≡ left.shared.outside
@@ -88,17 +98,18 @@ pub record IsRunOf (tells : Type 0) (whole : ModuleForm) (job : JobForm) (steps 
       (done_output (form_meaning tells) machine.program steps machine.conf (Told start) output run-end conf (Told left) ran)
 
 -- what it put out; where a step wanted memory, what was put out before that step
-abbrev pub run_output : {tells : Type 0} {whole : ModuleForm} {job : JobForm} {steps : ℕ} {before : State} {e : RunEnd} {after : State}
-    → IsRunOf tells whole job steps before e after → List Action
+abbrev pub run_output : {tells : Type 0} {given : List Action → Type 0} {whole : ModuleForm} {job : JobForm} {steps : ℕ} {before : State} {e : RunEnd}
+    {after : State} → IsRunOf tells given whole job steps before e after → List Action
 run_output {tells = tells} {steps = steps} r =
     done_output (form_meaning tells) r.machine.program steps r.machine.conf (Told r.start) r.output r.run-end r.conf (Told r.left) r.ran
 
 -- The bytes are a typed module that is run so.
-pub record HasRun (tells : Type 0) (bytes : List ℕ) (job : JobForm) (steps : ℕ) (before : State) (e : RunEnd) (after : State) : Type 0 where
+pub record HasRun (tells : Type 0) (given : List Action → Type 0) (bytes : List ℕ) (job : JobForm) (steps : ℕ) (before : State) (e : RunEnd) (after : State)
+    : Type 0 where
   pub whole : ModuleForm
   pub read : IsModule bytes whole
   pub typed : ModuleOk whole
-  pub run : IsRunOf tells whole job steps before e after
+  pub run : IsRunOf tells given whole job steps before e after
 
 -- The bytes are a typed module that does not link.
 pub record HasNoLink (bytes : List ℕ) (cause : LinkFault) : Type 0 where
@@ -107,14 +118,18 @@ pub record HasNoLink (bytes : List ℕ) (cause : LinkFault) : Type 0 where
   pub typed : ModuleOk whole
   pub unlinked : IsUnlinked whole cause
 
+-- a world that is as it was, to which nothing was given
+abbrev pub IsUntouched : (given : List Action → Type 0) (before after : State) → Type 0
+IsUntouched given before after = (after ≡ before) × given []
+
 -- what an answer says of the bytes and of the world
-abbrev pub Answers : (tells : Type 0) → List ℕ → JobForm → ℕ → State → RunEnd → State → Type 0
-Answers tells bytes job steps before (run.Refused (Decode cause)) after = IsRefused bytes (Decode cause) × (after ≡ before)
-Answers tells bytes job steps before (run.Refused (Invalid cause)) after = IsRefused bytes (Invalid cause) × (after ≡ before)
-Answers tells bytes job steps before (run.Refused (Link cause)) after = HasNoLink bytes cause × (after ≡ before)
-Answers tells bytes job steps before (run.Refused cause) after = ⊥
-Answers tells bytes job steps before run.NoMemory after = HasRun tells bytes job steps before run.NoMemory after ⊎ (after ≡ before)
-Answers tells bytes job steps before e after = HasRun tells bytes job steps before e after
+abbrev pub Answers : (tells : Type 0) (given : List Action → Type 0) → List ℕ → JobForm → ℕ → State → RunEnd → State → Type 0
+Answers tells given bytes job steps before (run.Refused (Decode cause)) after = IsRefused bytes (Decode cause) × IsUntouched given before after
+Answers tells given bytes job steps before (run.Refused (Invalid cause)) after = IsRefused bytes (Invalid cause) × IsUntouched given before after
+Answers tells given bytes job steps before (run.Refused (Link cause)) after = HasNoLink bytes cause × IsUntouched given before after
+Answers tells given bytes job steps before (run.Refused cause) after = ⊥
+Answers tells given bytes job steps before run.NoMemory after = HasRun tells given bytes job steps before run.NoMemory after ⊎ IsUntouched given before after
+Answers tells given bytes job steps before e after = HasRun tells given bytes job steps before e after
 
 -- The rest serves contracts inside the crate.
 
@@ -134,8 +149,8 @@ abbrev pub IsTyped : List ℕ → ModuleForm → Type 0
 IsTyped bytes m = IsModule bytes m × ModuleOk m
 
 -- what is answered for a typed module; a run that wanted memory may not have begun
-abbrev pub RunAnswers : (tells : Type 0) → ModuleForm → JobForm → ℕ → State → RunEnd → State → Type 0
-RunAnswers tells whole job steps before (run.Refused (Link cause)) after = IsUnlinked whole cause × (after ≡ before)
-RunAnswers tells whole job steps before (run.Refused cause) after = ⊥
-RunAnswers tells whole job steps before run.NoMemory after = IsRunOf tells whole job steps before run.NoMemory after ⊎ (after ≡ before)
-RunAnswers tells whole job steps before e after = IsRunOf tells whole job steps before e after
+abbrev pub RunAnswers : (tells : Type 0) (given : List Action → Type 0) → ModuleForm → JobForm → ℕ → State → RunEnd → State → Type 0
+RunAnswers tells given whole job steps before (run.Refused (Link cause)) after = IsUnlinked whole cause × IsUntouched given before after
+RunAnswers tells given whole job steps before (run.Refused cause) after = ⊥
+RunAnswers tells given whole job steps before run.NoMemory after = IsRunOf tells given whole job steps before run.NoMemory after ⊎ IsUntouched given before after
+RunAnswers tells given whole job steps before e after = IsRunOf tells given whole job steps before e after

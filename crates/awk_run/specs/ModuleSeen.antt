@@ -22,7 +22,7 @@ use Rattle.script_lines.specs.Reading.{table_in}
 use Rattle.run_report.specs.declared.whereabouts.CallSite.{CallSite}
 use Rattle.run_report.specs.declared.whereabouts.Whereabouts.{Whereabouts}
 use Rattle.awk_run.specs.FaultStep.{FaultStep}
-use Rattle.awk_run.specs.Seen.{next_record}
+use Rattle.script_places.specs.Sites.{next_record}
 use Rattle.awk_run.specs.declared.module_sights.ModuleWhereabouts.{ModuleWhereabouts}
 use Rattle.awk_run.specs.declared.module_sights.ModuleWhereabouts.TheVariants.{Lined, Unlined}
 

@@ -8,7 +8,7 @@ use Rattle.agreement.specs.Runs.ToldRuns.{DoesSo, DoesSoThere, GoesOnThere, Told
 use Rattle.run_report.specs.declared.compile_fault.CompileFault.TheVariants as compile
 use Rattle.script_compiler.specs.Compiled.{IsCompiled}
 use Rattle.script_compiler.specs.Refusals.{IsNotCompiled}
-use Rattle.awk_run.specs.ModuleRun.{HasRun, run_output}
+use Rattle.awk_run.specs.ModuleRun.{HasRun, IsUntouched, run_output}
 use Rattle.run_report.specs.declared.end.Refusal.TheVariants.{Compile}
 use Rattle.run_report.specs.declared.end.RunEnd.{RunEnd}
 use Rattle.run_report.specs.declared.end.RunEnd.TheVariants as run
@@ -30,18 +30,19 @@ pub record DoesFound (script : Setting → ℕ → Ending) (job : JobForm) (boun
   pub does : DoesSoThere script job finds (told_of e) output
   pub goes_on : e ≡ run.OutOfSteps → GoesOnThere script job finds bound steps
 
--- The script is compiled, and its module is run so. In a modelled world the script does so too; in every world it does so in surroundings that others change too,
--- with the output of the run; where a step wanted memory, with what was put out before that step.
-pub record IsScriptRun (tells : Type 0) (bytes : List ℕ) (job : JobForm) (steps : ℕ) (before : State) (e : RunEnd) (after : State) : Type 0 where
+-- The script is compiled, and its module is run so, with an output that was given so. In a modelled world the script does so too; in every world it does so in
+-- surroundings that others change too, with the output of the run; where a step wanted memory, with what was put out before that step.
+pub record IsScriptRun (tells : Type 0) (given : List Action → Type 0) (bytes : List ℕ) (job : JobForm) (steps : ℕ) (before : State) (e : RunEnd) (after : State)
+    : Type 0 where
   pub compiled : List ℕ
   pub is_compiled : IsCompiled bytes compiled
-  pub ran : HasRun tells compiled job steps before e after
+  pub ran : HasRun tells given compiled job steps before e after
   pub does : tells → DoesSo (resolved_run (resolved is_compiled.script)) job (before.readers 0) before.outside (told_of e) after.outside
   pub there : DoesFound (resolved_run (resolved is_compiled.script)) job is_compiled.agreement.bound steps e (run_output ran.run)
 
 -- what an answer says of the script and of the world
-abbrev pub ScriptAnswers : (tells : Type 0) → List ℕ → JobForm → ℕ → State → RunEnd → State → Type 0
-ScriptAnswers tells bytes job steps before (run.Refused (Compile cause)) after = (cause ≢ compile.NoMemory) × IsNotCompiled bytes cause × (after ≡ before)
-ScriptAnswers tells bytes job steps before (run.Refused cause) after = ⊥
-ScriptAnswers tells bytes job steps before run.NoMemory after = IsScriptRun tells bytes job steps before run.NoMemory after ⊎ (after ≡ before)
-ScriptAnswers tells bytes job steps before e after = IsScriptRun tells bytes job steps before e after
+abbrev pub ScriptAnswers : (tells : Type 0) (given : List Action → Type 0) → List ℕ → JobForm → ℕ → State → RunEnd → State → Type 0
+ScriptAnswers tells given bytes job steps before (run.Refused (Compile cause)) after = (cause ≢ compile.NoMemory) × IsNotCompiled bytes cause × IsUntouched given before after
+ScriptAnswers tells given bytes job steps before (run.Refused cause) after = ⊥
+ScriptAnswers tells given bytes job steps before run.NoMemory after = IsScriptRun tells given bytes job steps before run.NoMemory after ⊎ IsUntouched given before after
+ScriptAnswers tells given bytes job steps before e after = IsScriptRun tells given bytes job steps before e after

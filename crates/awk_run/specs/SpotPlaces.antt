@@ -1,6 +1,6 @@
 -- Which statement of a script a place of its module has.
 use Rattle.std.specs.Prelude.{◌≡◌, ℕ, List, Some, slice_get}
-use Rattle.awk_grammar.specs.Item.{Item}
+use Rattle.awk_grammar.specs.Trees.{Item}
 use Rattle.awk_tokens.specs.Cutting.{Spelled}
 use Rattle.awk_tree.specs.Lines.{line_of}
 use Rattle.sem_scripts.specs.Kinds.{resolved}
@@ -9,7 +9,7 @@ use Rattle.agreement.specs.Spots.InOrder.{spots_in}
 use Rattle.agreement.specs.Spots.Probed.{module_place}
 use Rattle.agreement.specs.Spots.Spots.{Home, StatementPath}
 use Rattle.agreement.specs.Spots.SpotTexts.{IsLineOfSpot}
-use Rattle.awk_run.specs.Counted.{Moment, passes}
+use Rattle.script_places.specs.Passes.{Moment, passes}
 
 -- The place of this number in a function has a line, which is that of a spot of the script.
 pub record HasSpotsLine (tokens : List Spelled) (script : List Item) (function place : ℕ) (home : Home) (spot : StatementPath) : Type 0 where

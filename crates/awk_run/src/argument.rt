@@ -1,14 +1,14 @@
 //! The text that a call of the host was given and that has the error which the call kept.
 ghost use Rattle.std.specs.Prelude.{◌≡◌, ◌↔◌, Err, IfSome, IsTrue, true};
-ghost use Rattle.sem_primitives.specs.FirstMatch.{expression_of};
 ghost use Rattle.awk_run.specs.Seen.{IsAbout};
-ghost use Rattle.host_calls.specs.Forms.{host_form};
+ghost use Rattle.host_calls.specs.Runs.{sight};
+ghost use Rattle.sem_primitives.specs.Eres.{expression_of};
 
-use crate::code_before::{CodeBefore, Push};
 use awk_values::{Bytes, Fault, Stop, Value, to_number, to_text, truncated};
 use host_calls::{Host, Import, Special, VariadicImport};
 use host_format::Matcher;
 use run_report::Subject;
+use script_places::{CodeBefore, Push};
 use sem_primitives::Primitive;
 use std::alloc::Global;
 use wasm_machine::Machine;
@@ -72,7 +72,7 @@ fn simple_text<W: World>(
     host: &mut Host<W>,
     push: Push,
 ) -> Option<Found>
-    ensures { host_form W.state host.new ≡ host_form W.state host.old }
+    ensures { sight W.state host.new ≡ sight W.state host.old }
 {
     let (text, start, read) = match push {
         Push::Held { start, handle } => (text_of(alloc, host.value(handle)?)?, start, start),
@@ -132,7 +132,7 @@ fn operand<W: World>(
     at: usize,
     nested: usize,
 ) -> Option<Found>
-    ensures { host_form W.state host.new ≡ host_form W.state host.old }
+    ensures { sight W.state host.new ≡ sight W.state host.old }
 {
     if nested == 0 {
         return None;
@@ -223,7 +223,7 @@ fn tried<W: World>(
     end: usize,
     fault: Fault,
 ) -> Option<Subject>
-    ensures same { host_form W.state host.new ≡ host_form W.state host.old }
+    ensures same { sight W.state host.new ≡ sight W.state host.old }
     ensures about { IfSome result (IsAbout fault) }
 {
     let found = operand(alloc, code, host, end, MOST_NESTED)?;
@@ -253,7 +253,7 @@ fn first_of<W: World>(
     alone: bool,
     fault: Fault,
 ) -> Option<Subject>
-    ensures same { host_form W.state host.new ≡ host_form W.state host.old }
+    ensures same { sight W.state host.new ≡ sight W.state host.old }
     ensures about { IfSome result (IsAbout fault) }
 {
     let mut found = None;
@@ -306,7 +306,7 @@ pub(crate) fn argument<W: World>(
     host: &mut Host<W>,
     fault: Fault,
 ) -> Option<Subject>
-    ensures same { host_form W.state host.new ≡ host_form W.state host.old }
+    ensures same { sight W.state host.new ≡ sight W.state host.old }
     ensures about { IfSome result (IsAbout fault) }
 {
     let code = CodeBefore::new(machine)?;

@@ -3,10 +3,9 @@ ghost use Rattle.std.specs.Prelude.{◌≡◌, ◌⊎◌, ℕ, List, None, Ok, O
 ghost use Rattle.agreement.specs.Places.Statements.{starts_in};
 ghost use Rattle.agreement.specs.Spots.InOrder.{spots_in};
 ghost use Rattle.agreement.specs.Spots.Spots.{Home, StatementPath};
-ghost use Rattle.awk_grammar.specs.Item.{Item};
+ghost use Rattle.awk_grammar.specs.Trees.{Item};
 ghost use Rattle.awk_grammar.specs.TreeOf.{IsTreeOf};
 ghost use Rattle.awk_parse.specs.Parsing.{IsParsed};
-ghost use Rattle.awk_run.specs.Counted.{AreFirsts, Moment, nops_of, places_counted};
 ghost use Rattle.awk_run.specs.SpotPlaces.{HasSpotsLine, IsCountOfSpot, IsOfSpot};
 ghost use Rattle.awk_tokens.specs.Cutting.{IsTokens, Spelled};
 ghost use Rattle.awk_tree.specs.Lines.{line_of};
@@ -16,6 +15,7 @@ ghost use Rattle.run_report.specs.declared.compile_fault.CompileFault.TheVariant
 ghost use Rattle.run_report.specs.declared.counts.PlaceCount.{PlaceCount};
 ghost use Rattle.script_compiler.specs.Compiled.{IsCompiled};
 ghost use Rattle.script_compiler.specs.Refusals.{IsNotCompiled};
+ghost use Rattle.script_places.specs.Passes.{AreFirsts, Moment, nops_of, places_counted};
 ghost use Rattle.wasm_machine.specs.Amid.{Amid};
 ghost use Rattle.wasm_machine.specs.Places.{HasStatement, StandsAt};
 ghost use Rattle.wasm_machine.specs.declared.places.Place.{Place};

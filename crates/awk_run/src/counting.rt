@@ -1,14 +1,16 @@
 //! Scripts in the sandbox, with how often their lines were executed.
-ghost use Rattle.std.specs.Prelude.{◌≡◌, [], None, IfSome};
-ghost use Rattle.awk_run.specs.Counted.{IsCounted, IsCountedIn, IsCountedOf, IsCountedOfBytes, nops_in};
-ghost use Rattle.awk_run.specs.ModuleRun.{Answers, RunAnswers};
+ghost use Rattle.std.specs.Prelude.{◌≡◌, [], IfSome, List, None};
+ghost use Rattle.awk_run.specs.Counted.{IsCounted, IsCountedIn, IsCountedOf, IsCountedOfBytes};
+ghost use Rattle.awk_run.specs.ModuleRun.{Answers, IsGiven, RunAnswers};
 ghost use Rattle.awk_run.specs.ScriptRuns.{ScriptAnswers};
-ghost use Rattle.awk_run.specs.Tallied.{AreTallied, rows_of};
+ghost use Rattle.awk_run.specs.Tallied.{IsTold};
 ghost use Rattle.host_calls.specs.Forms.{host_form};
+ghost use Rattle.host_calls.specs.Runs.{given_meaning, sight};
 ghost use Rattle.host_imports.specs.Imports.{host_types};
 ghost use Rattle.host_tables.specs.Starts.{job_of};
-ghost use Rattle.host_values.specs.FormMeaning.{Told, form_meaning};
 ghost use Rattle.host_values.specs.Findings.{ShownFirst};
+ghost use Rattle.script_places.specs.Passes.{Moment, nops_in};
+ghost use Rattle.script_places.specs.Tallies.{AreTallied, rows_of};
 ghost use Rattle.sem_primitives.specs.Jobs.{JobForm};
 ghost use Rattle.wasm_model.specs.Runs.{Did};
 ghost use Rattle.wasm_model.specs.Typed.{Linked};
@@ -16,19 +18,44 @@ ghost use Rattle.wasm_types.specs.Typing.{ModuleOk};
 ghost use Rattle.wasm_types.specs.View.{view_module};
 
 use crate::end::run_end;
-use crate::line_counts::counts_of;
 use crate::module::read;
 use crate::noted_world::NotedWorld;
 use crate::stepping::step_through;
-use crate::tally::Tally;
-use host_calls::{Host, Job};
+use host_calls::{Host, Job, Special};
 use module_validator::ValidModule;
 use run_report::{Refusal, RunCounts, RunEnd};
 use script_compiler::{CompileFault, compile};
+use script_places::{Tally, greater, lines_of};
 use std::alloc::Global;
 use std::hash::RandomState;
 use wasm_machine::{LinkFault, Machine, MachineEnd};
 use world_core::World;
+
+/// What is counted of a run of so many steps, at whose end the host is this one; none where memory is wanting.
+fn counts_of<W: World>(
+    alloc: Global,
+    script: &[u8],
+    host: &Host<W>,
+    tally: &Tally,
+    steps: u64,
+) -> Option<RunCounts>
+    ensures { (moments : List Moment) → AreTallied moments (rows_of tally.now.rows.items)
+        → IfSome result (IsTold script.now (host_form W.state host.now)
+        (rows_of tally.now.nops.items) tally.now.values steps moments) }
+{
+    let Ok(lines) = lines_of(alloc, script, tally) else {
+        return None;
+    };
+    let Ok(records) = host.special_text(Special::Nr) else {
+        return None;
+    };
+    Some(RunCounts {
+        lines,
+        steps,
+        records,
+        values: greater(host.live_values(), tally.values),
+    })
+}
 
 /// Runs a machine from its beginning, and counts its steps.
 fn run_counted<W: World>(
@@ -44,9 +71,8 @@ fn run_counted<W: World>(
     requires nops { rows_of tally.nops.items ≡ nops_in machine.old.program.whole }
     requires rows { AreTallied [] (rows_of tally.rows.items) }
     requires values { tally.values ≡ 0 }
-    ensures did { Did (form_meaning W.is_modelled) machine.old.program steps machine.old.conf
-        (Told (host_form W.state host)) result.0 machine.new.conf
-        (Told (host_form W.state result.2)) }
+    ensures did { Did (given_meaning W.is_modelled W.did) machine.old.program steps machine.old.conf
+        (sight W.state host) result.0 machine.new.conf (sight W.state result.2) }
     ensures counted { IfSome result.1 (IsCounted W.is_modelled script.now machine.old.program steps
         machine.old.conf (host_form W.state host)) }
 {
@@ -58,6 +84,7 @@ fn run_counted<W: World>(
 }
 
 /// Links a module with a host, and runs it.
+#[tactic(auto, using(crate::proofs::Gave::none_given))]
 fn run_valid_counted<W: World>(
     alloc: Global,
     script: &[u8],
@@ -68,8 +95,9 @@ fn run_valid_counted<W: World>(
     requires { ModuleOk (view_module valid) }
     ensures answers { (job : JobForm) → ShownFirst (host_form W.state host)
         job ((W.state host.world).readers 0) (W.state host.world).outside
-        → RunAnswers W.is_modelled (view_module valid) job steps (W.state host.world) result.0
-        (W.state result.2) }
+        → host.input.files.writers.items ≡ []
+        → RunAnswers W.is_modelled (IsGiven W.did host.world result.2) (view_module valid) job steps
+        (W.state host.world) result.0 (W.state result.2) }
     ensures counted { (job : JobForm) → ShownFirst (host_form W.state host)
         job ((W.state host.world).readers 0) (W.state host.world).outside
         → IfSome result.1 (IsCountedOf W.is_modelled script.now (view_module valid) job steps
@@ -91,7 +119,7 @@ fn run_valid_counted<W: World>(
 }
 
 /// Runs the module of a script in a job.
-#[tactic(auto, using(crate::proofs::Runs::unread_answers))]
+#[tactic(auto, using(crate::proofs::Runs::unread_answers, crate::proofs::Gave::none_given))]
 fn run_module_counted<W: World>(
     alloc: Global,
     script: &[u8],
@@ -101,8 +129,8 @@ fn run_module_counted<W: World>(
     world: W,
     steps: u64,
 ) -> (RunEnd, Option<RunCounts>, W)
-    ensures answers { Answers W.is_modelled bytes.now (job_of job.now) steps (W.state world) result.0
-        (W.state result.2) }
+    ensures answers { Answers W.is_modelled (IsGiven W.did world result.2) bytes.now
+        (job_of job.now) steps (W.state world) result.0 (W.state result.2) }
     ensures counted { IfSome result.1 (IsCountedOfBytes W.is_modelled script.now bytes.now
         (job_of job.now) steps (W.state world)) }
 {
@@ -127,8 +155,8 @@ fn run_module_noted<W: World>(
     world: W,
     steps: u64,
 ) -> (RunEnd, Option<RunCounts>, W)
-    ensures answers { Answers W.is_modelled bytes.now (job_of job.now) steps (W.state world) result.0
-        (W.state result.2) }
+    ensures answers { Answers W.is_modelled (IsGiven W.did world result.2) bytes.now
+        (job_of job.now) steps (W.state world) result.0 (W.state result.2) }
     ensures counted { IfSome result.1 (IsCountedOfBytes W.is_modelled script.now bytes.now
         (job_of job.now) steps (W.state world)) }
 {
@@ -139,7 +167,7 @@ fn run_module_noted<W: World>(
 
 /// As `run_script`, and counts: how often each line's first statement was executed, and what the run took. It is slower, since the module is run a step at a
 /// time. Nothing is counted of a script that is not run, or for want of memory.
-#[tactic(auto, using(crate::proofs::ScriptRuns::script_answers))]
+#[tactic(auto, using(crate::proofs::ScriptRuns::script_answers, crate::proofs::Gave::none_given))]
 pub fn count_script<W: World>(
     alloc: Global,
     script: &[u8],
@@ -148,8 +176,8 @@ pub fn count_script<W: World>(
     world: W,
     steps: u64,
 ) -> (RunEnd, Option<RunCounts>, W)
-    ensures answers { ScriptAnswers W.is_modelled script.now (job_of job.now) steps (W.state world)
-        result.0 (W.state result.2) }
+    ensures answers { ScriptAnswers W.is_modelled (IsGiven W.did world result.2) script.now
+        (job_of job.now) steps (W.state world) result.0 (W.state result.2) }
     ensures counted { IfSome result.1 (IsCountedIn W.is_modelled script.now (job_of job.now) steps
         (W.state world)) }
 {

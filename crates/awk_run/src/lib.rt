@@ -2,12 +2,10 @@
 #![tactic(auto)]
 
 mod argument;
-mod code_before;
 mod compiled_laws;
 mod counting;
 mod end;
 mod execution_laws;
-mod line_counts;
 mod module;
 mod module_sights;
 mod module_where;
@@ -15,19 +13,29 @@ mod noted_world;
 mod script;
 mod script_where;
 mod stepping;
-mod tally;
 mod whereabouts;
 
+pub use awk_parse::{Feature, ParseFault};
+pub use awk_resolve::{Name, ResolveFault};
+pub use awk_tokens::{LeftOut, TokenFault};
+pub use awk_values::{Bytes, Fault};
 pub use compiled_laws::{
     compiled_scripts_are_sound, counted_places_are_of_spots, counted_places_are_passed,
     counts_are_of_spots, lines_are_of_spots, told_places_are_at_work,
 };
 pub use counting::count_script;
+pub use ere_syntax::EreFault;
 pub use execution_laws::{counts_are_executions, steps_begin_executions};
+pub use host_calls::{Job, NamedText};
 pub use module::run_module;
+pub use module_decoder::DecodeFault;
 pub use module_sights::ModuleWhereabouts;
+pub use module_validator::InvalidFault;
 pub use module_where::run_module_where;
 pub use run_report::{CallSite, PlaceCount, Refusal, RunCounts, RunEnd, Subject, Whereabouts};
 pub use script::run_script;
 pub use script_compiler::{CompileFault, compile};
 pub use script_where::run_script_where;
+pub use wasm_model::LinkFault;
+pub use wasm_store::TrapKind;
+pub use world_core::{MemWorld, World, WorldFault};

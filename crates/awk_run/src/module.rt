@@ -1,6 +1,6 @@
 //! Modules in the sandbox.
-ghost use Rattle.std.specs.Prelude.{◌≡◌, IfOk, IfErr};
-ghost use Rattle.awk_run.specs.ModuleRun.{undecoded, Answers, IsTyped, RunAnswers, Unread};
+ghost use Rattle.std.specs.Prelude.{◌≡◌, [], IfOk, IfErr};
+ghost use Rattle.awk_run.specs.ModuleRun.{undecoded, Answers, IsGiven, IsTyped, RunAnswers, Unread};
 ghost use Rattle.sem_primitives.specs.Jobs.{JobForm};
 ghost use Rattle.host_values.specs.Findings.{ShownFirst};
 ghost use Rattle.host_calls.specs.Forms.{host_form};
@@ -46,12 +46,14 @@ pub(crate) fn read(alloc: Global, bytes: &[u8]) -> Result<ValidModule, RunEnd>
 }
 
 /// Links a module with a host, and runs it.
+#[tactic(auto, using(crate::proofs::Gave::none_given))]
 fn run_valid<W: World>(alloc: Global, valid: ValidModule, host: Host<W>, steps: u64) -> (RunEnd, W)
     requires { ModuleOk (view_module valid) }
     ensures { (job : JobForm) → ShownFirst (host_form W.state host)
         job ((W.state host.world).readers 0) (W.state host.world).outside
-        → RunAnswers W.is_modelled (view_module valid) job steps (W.state host.world) result.0
-        (W.state result.1) }
+        → host.input.files.writers.items ≡ []
+        → RunAnswers W.is_modelled (IsGiven W.did host.world result.1) (view_module valid) job steps
+        (W.state host.world) result.0 (W.state result.1) }
 {
     let mut host = host;
     let mut machine = match Machine::new(alloc, valid, &host) {
@@ -64,7 +66,7 @@ fn run_valid<W: World>(alloc: Global, valid: ValidModule, host: Host<W>, steps: 
 }
 
 /// Runs a module in a job over a world.
-#[tactic(auto, using(crate::proofs::Runs::unread_answers))]
+#[tactic(auto, using(crate::proofs::Runs::unread_answers, crate::proofs::Gave::none_given))]
 fn run_over<W: World>(
     alloc: Global,
     bytes: &[u8],
@@ -73,8 +75,8 @@ fn run_over<W: World>(
     world: W,
     steps: u64,
 ) -> (RunEnd, W)
-    ensures { Answers W.is_modelled bytes.now (job_of job.now) steps (W.state world) result.0
-        (W.state result.1) }
+    ensures { Answers W.is_modelled (IsGiven W.did world result.1) bytes.now
+        (job_of job.now) steps (W.state world) result.0 (W.state result.1) }
 {
     let valid = match read(alloc, bytes) {
         Ok(valid) => valid,
@@ -101,8 +103,8 @@ pub fn run_module<W: World>(
     world: W,
     steps: u64,
 ) -> (RunEnd, W)
-    ensures { Answers W.is_modelled bytes.now (job_of job.now) steps (W.state world) result.0
-        (W.state result.1) }
+    ensures { Answers W.is_modelled (IsGiven W.did world result.1) bytes.now
+        (job_of job.now) steps (W.state world) result.0 (W.state result.1) }
 {
     let noted = NotedWorld::new(alloc, world);
     let (end, noted) = run_over(alloc, bytes, job, state, noted, steps);

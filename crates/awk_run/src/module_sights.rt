@@ -2,17 +2,17 @@
 ghost use Rattle.std.specs.Prelude.{◌≡◌, IfOk, IfSome, None, length, map, option_and_then, option_map};
 ghost use Rattle.awk_run.specs.ModuleSeen.{AreLineSites, IsLineSite, IsModuleSeen, TellsLines, TellsModule, TellsUnlined};
 ghost use Rattle.host_calls.specs.Forms.{host_form};
+ghost use Rattle.host_calls.specs.Runs.{given_meaning, sight};
 ghost use Rattle.host_imports.specs.Imports.{host_types};
-ghost use Rattle.host_values.specs.FormMeaning.{Told, form_meaning};
 ghost use Rattle.script_lines.specs.Lines.{form_of, line_in, name_in};
 ghost use Rattle.wasm_model.specs.Runs.{Did};
 ghost use Rattle.wasm_model.specs.Typed.{Linked};
 
-use crate::whereabouts::told_of;
 use awk_values::Bytes;
 use host_calls::{Host, Import, Special, Watched};
 use run_report::{CallSite, Whereabouts};
 use script_lines::{FunctionLines, line_in, name_in};
+use script_places::told_of;
 use sem_primitives::Primitive;
 use std::alloc::{AllocError, Global};
 use wasm_machine::{Machine, MachineEnd, Place};
@@ -173,9 +173,8 @@ pub(crate) fn run_module_seen<W: World>(
 ) -> (MachineEnd, Option<ModuleWhereabouts>, Host<W>)
     requires linked { Linked host_types machine.old.program }
     requires going { machine.old.ended ≡ None }
-    ensures did { Did (form_meaning W.is_modelled) machine.old.program steps machine.old.conf
-        (Told (host_form W.state host)) result.0 machine.new.conf
-        (Told (host_form W.state result.2)) }
+    ensures did { Did (given_meaning W.is_modelled W.did) machine.old.program steps machine.old.conf
+        (sight W.state host) result.0 machine.new.conf (sight W.state result.2) }
     ensures seen { IfSome result.1 (IsModuleSeen W.is_modelled
         (option_map (λ rows. map form_of rows.items) table.now) imports machine.old.program steps
         machine.old.conf (host_form W.state host)) }

@@ -1,6 +1,6 @@
 //! Modules in the sandbox, with where they were.
-ghost use Rattle.std.specs.Prelude.{◌≡◌, IfSome, length, map, option_map};
-ghost use Rattle.awk_run.specs.ModuleRun.{Answers, RunAnswers};
+ghost use Rattle.std.specs.Prelude.{◌≡◌, [], IfSome, length, map, option_map};
+ghost use Rattle.awk_run.specs.ModuleRun.{Answers, IsGiven, RunAnswers};
 ghost use Rattle.awk_run.specs.ModuleSeen.{IsModuleSeenIn, IsModuleSeenOf};
 ghost use Rattle.host_calls.specs.Forms.{host_form};
 ghost use Rattle.host_tables.specs.Starts.{job_of};
@@ -31,6 +31,7 @@ fn import_count(valid: &ValidModule) -> usize
 }
 
 /// Links a module with a host, and runs it.
+#[tactic(auto, using(crate::proofs::Gave::none_given))]
 fn run_valid_seen<W: World>(
     alloc: Global,
     table: &Option<Vec<FunctionLines>>,
@@ -41,8 +42,9 @@ fn run_valid_seen<W: World>(
     requires { ModuleOk (view_module valid) }
     ensures answers { (job : JobForm) → ShownFirst (host_form W.state host)
         job ((W.state host.world).readers 0) (W.state host.world).outside
-        → RunAnswers W.is_modelled (view_module valid) job steps (W.state host.world) result.0
-        (W.state result.2) }
+        → host.input.files.writers.items ≡ []
+        → RunAnswers W.is_modelled (IsGiven W.did host.world result.2) (view_module valid) job steps
+        (W.state host.world) result.0 (W.state result.2) }
     ensures seen { (job : JobForm) → ShownFirst (host_form W.state host)
         job ((W.state host.world).readers 0) (W.state host.world).outside
         → IfSome result.1 (IsModuleSeenOf W.is_modelled
@@ -63,7 +65,7 @@ fn run_valid_seen<W: World>(
 }
 
 /// Runs a module over a world, and tells where it was.
-#[tactic(auto, using(crate::proofs::Runs::unread_answers))]
+#[tactic(auto, using(crate::proofs::Runs::unread_answers, crate::proofs::Gave::none_given))]
 fn run_seen_over<W: World>(
     alloc: Global,
     bytes: &[u8],
@@ -72,8 +74,8 @@ fn run_seen_over<W: World>(
     world: W,
     steps: u64,
 ) -> (RunEnd, Option<ModuleWhereabouts>, W)
-    ensures answers { Answers W.is_modelled bytes.now (job_of job.now) steps (W.state world) result.0
-        (W.state result.2) }
+    ensures answers { Answers W.is_modelled (IsGiven W.did world result.2) bytes.now
+        (job_of job.now) steps (W.state world) result.0 (W.state result.2) }
     ensures seen { IfSome result.1 (IsModuleSeenIn W.is_modelled bytes.now (job_of job.now) steps
         (W.state world)) }
 {
@@ -101,8 +103,8 @@ pub fn run_module_where<W: World>(
     world: W,
     steps: u64,
 ) -> (RunEnd, Option<ModuleWhereabouts>, W)
-    ensures answers { Answers W.is_modelled bytes.now (job_of job.now) steps (W.state world) result.0
-        (W.state result.2) }
+    ensures answers { Answers W.is_modelled (IsGiven W.did world result.2) bytes.now
+        (job_of job.now) steps (W.state world) result.0 (W.state result.2) }
     ensures seen { IfSome result.1 (IsModuleSeenIn W.is_modelled bytes.now (job_of job.now) steps
         (W.state world)) }
 {

@@ -1,4 +1,5 @@
 //! Scripts in the sandbox.
+ghost use Rattle.awk_run.specs.ModuleRun.{IsGiven};
 ghost use Rattle.awk_run.specs.ScriptRuns.{ScriptAnswers};
 ghost use Rattle.host_tables.specs.Starts.{job_of};
 
@@ -16,8 +17,9 @@ use world_core::World;
 /// The answer is [`RunEnd::Refused`] with [`Refusal::Compile`] where the script is not compiled, and never otherwise; nothing is done to the world then.
 /// [`RunEnd::NoMemory`] may come instead of any other answer, where memory was wanting; what went out by then is how the script's output begins.
 /// [`RunEnd::OutOfSteps`] where the steps did not suffice, after a beginning of its output. Any other answer is how the script ends, with its output.
-/// What the script does is said of every world, where each opening, read and write finds the next of some list; and over what the names hold, where the world tells it.
-#[tactic(auto, using(crate::proofs::ScriptRuns::script_answers))]
+/// What the script does is said of every world, where each opening, read and write finds the next of some list, and the output is what was given to the world;
+/// and over what the names hold, where the world tells it.
+#[tactic(auto, using(crate::proofs::ScriptRuns::script_answers, crate::proofs::Gave::none_given))]
 pub fn run_script<W: World>(
     alloc: Global,
     script: &[u8],
@@ -26,8 +28,8 @@ pub fn run_script<W: World>(
     world: W,
     steps: u64,
 ) -> (RunEnd, W)
-    ensures { ScriptAnswers W.is_modelled script.now (job_of job.now) steps (W.state world) result.0
-        (W.state result.1) }
+    ensures { ScriptAnswers W.is_modelled (IsGiven W.did world result.1) script.now
+        (job_of job.now) steps (W.state world) result.0 (W.state result.1) }
 {
     match compile(alloc, script) {
         Ok(module) => run_module(alloc, &module, job, state, world, steps),

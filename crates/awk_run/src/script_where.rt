@@ -1,6 +1,6 @@
 //! Scripts in the sandbox, with where they were.
-ghost use Rattle.std.specs.Prelude.{IfSome};
-ghost use Rattle.awk_run.specs.ModuleRun.{Answers, RunAnswers};
+ghost use Rattle.std.specs.Prelude.{◌≡◌, [], IfSome};
+ghost use Rattle.awk_run.specs.ModuleRun.{Answers, IsGiven, RunAnswers};
 ghost use Rattle.awk_run.specs.ScriptRuns.{ScriptAnswers};
 ghost use Rattle.awk_run.specs.Seen.{IsSeenIn, IsSeenOf, IsSeenOfBytes};
 ghost use Rattle.host_calls.specs.Forms.{host_form};
@@ -24,6 +24,7 @@ use wasm_machine::{LinkFault, Machine};
 use world_core::World;
 
 /// Links a module with a host, and runs it.
+#[tactic(auto, using(crate::proofs::Gave::none_given))]
 fn run_valid_where<W: World + KnowsFailed>(
     alloc: Global,
     script: &[u8],
@@ -34,8 +35,9 @@ fn run_valid_where<W: World + KnowsFailed>(
     requires { ModuleOk (view_module valid) }
     ensures answers { (job : JobForm) → ShownFirst (host_form W.state host)
         job ((W.state host.world).readers 0) (W.state host.world).outside
-        → RunAnswers W.is_modelled (view_module valid) job steps (W.state host.world) result.0
-        (W.state result.2) }
+        → host.input.files.writers.items ≡ []
+        → RunAnswers W.is_modelled (IsGiven W.did host.world result.2) (view_module valid) job steps
+        (W.state host.world) result.0 (W.state result.2) }
     ensures seen { (job : JobForm) → ShownFirst (host_form W.state host)
         job ((W.state host.world).readers 0) (W.state host.world).outside
         → IfSome result.1 (IsSeenOf W.is_modelled script.now (view_module valid) job steps
@@ -54,7 +56,7 @@ fn run_valid_where<W: World + KnowsFailed>(
 }
 
 /// Runs the module of a script in a job.
-#[tactic(auto, using(crate::proofs::Runs::unread_answers))]
+#[tactic(auto, using(crate::proofs::Runs::unread_answers, crate::proofs::Gave::none_given))]
 fn run_module_where<W: World + KnowsFailed>(
     alloc: Global,
     script: &[u8],
@@ -64,8 +66,8 @@ fn run_module_where<W: World + KnowsFailed>(
     world: W,
     steps: u64,
 ) -> (RunEnd, Option<Whereabouts>, W)
-    ensures answers { Answers W.is_modelled bytes.now (job_of job.now) steps (W.state world) result.0
-        (W.state result.2) }
+    ensures answers { Answers W.is_modelled (IsGiven W.did world result.2) bytes.now
+        (job_of job.now) steps (W.state world) result.0 (W.state result.2) }
     ensures seen { IfSome result.1 (IsSeenOfBytes W.is_modelled script.now bytes.now (job_of job.now)
         steps (W.state world)) }
 {
@@ -90,8 +92,8 @@ fn run_module_noted<W: World>(
     world: W,
     steps: u64,
 ) -> (RunEnd, Option<Whereabouts>, W)
-    ensures answers { Answers W.is_modelled bytes.now (job_of job.now) steps (W.state world) result.0
-        (W.state result.2) }
+    ensures answers { Answers W.is_modelled (IsGiven W.did world result.2) bytes.now
+        (job_of job.now) steps (W.state world) result.0 (W.state result.2) }
     ensures seen { IfSome result.1 (IsSeenOfBytes W.is_modelled script.now bytes.now (job_of job.now)
         steps (W.state world)) }
 {
@@ -102,7 +104,7 @@ fn run_module_noted<W: World>(
 
 /// As `run_script`, and tells where the script was: where its run kept the first fault, or else where it ended. None is told of a script that is not run or that
 /// ends by itself, or for want of memory.
-#[tactic(auto, using(crate::proofs::ScriptRuns::script_answers))]
+#[tactic(auto, using(crate::proofs::ScriptRuns::script_answers, crate::proofs::Gave::none_given))]
 pub fn run_script_where<W: World>(
     alloc: Global,
     script: &[u8],
@@ -111,8 +113,8 @@ pub fn run_script_where<W: World>(
     world: W,
     steps: u64,
 ) -> (RunEnd, Option<Whereabouts>, W)
-    ensures answers { ScriptAnswers W.is_modelled script.now (job_of job.now) steps (W.state world)
-        result.0 (W.state result.2) }
+    ensures answers { ScriptAnswers W.is_modelled (IsGiven W.did world result.2) script.now
+        (job_of job.now) steps (W.state world) result.0 (W.state result.2) }
     ensures seen { IfSome result.1 (IsSeenIn W.is_modelled script.now (job_of job.now) steps
         (W.state world)) }
 {

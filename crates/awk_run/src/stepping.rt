@@ -1,12 +1,15 @@
 //! Runs that are counted step by step.
 ghost use Rattle.std.specs.Prelude.{◌≡◌, [], None};
-ghost use Rattle.awk_run.specs.Tallied.{AreTallied, IsTallied, rows_of};
+ghost use Rattle.awk_run.specs.Tallied.{IsTallied};
 ghost use Rattle.host_calls.specs.Forms.{host_form};
+ghost use Rattle.host_calls.specs.Runs.{given_meaning, sight};
 ghost use Rattle.host_imports.specs.Imports.{host_types};
+ghost use Rattle.script_places.specs.Tallies.{AreTallied, rows_of};
+ghost use Rattle.wasm_model.specs.Runs.{Did};
 ghost use Rattle.wasm_model.specs.Typed.{Linked};
 
-use crate::tally::Tally;
 use host_calls::Host;
+use script_places::Tally;
 use wasm_machine::{Machine, MachineEnd};
 use world_core::World;
 
@@ -21,6 +24,8 @@ pub(crate) fn step_through<W: World>(
     requires going { machine.old.ended ≡ None }
     requires rows { AreTallied [] (rows_of tally.old.rows.items) }
     requires values { tally.old.values ≡ 0 }
+    ensures did { Did (given_meaning W.is_modelled W.did) machine.old.program steps machine.old.conf
+        (sight W.state host.old) result.0 machine.new.conf (sight W.state host.new) }
     ensures nops { tally.new.nops ≡ tally.old.nops }
     ensures tallied { IsTallied W.is_modelled machine.old.program steps result.1 machine.old.conf
         (host_form W.state host.old) result.0 machine.new.conf (host_form W.state host.new)

@@ -4,7 +4,8 @@ use Rattle.std.specs.Prelude.{nat_le, ◌&&◌}
 use Rattle.std.proofs.lemmas.Bool.{leb-true, le-leb}
 use Rattle.awk_tokens.specs.declared.reserved_words.Builtin.{Builtin}
 use Rattle.awk_tokens.specs.declared.reserved_words.Builtin.TheVariants as function
-use Rattle.awk_grammar.specs.Tree.{Tree, Var, Index, Field, Bin, Trees, NoTree, Then, count, within, is_var, second_is_var, third_is_lvalue, suits, level}
+use Rattle.awk_grammar.specs.Tree.{within, is_var, second_is_var, third_is_lvalue, suits, level}
+use Rattle.awk_grammar.specs.Trees.{count, Tree, Var, Index, Field, Bin, Trees, NoTree, Then}
 use Rattle.awk_tree.specs.Ends.{IsVariable}
 use Rattle.awk_tree.specs.Expressions.{Takes, length_0, length_1, substr_2, substr_3, index, match, split_2, split_3, sub_2, sub_3, gsub_2, gsub_3, sprintf, tolower, toupper, int, close, fflush_0, fflush_1}
 use Rattle.awk_tree.proofs.Levels.{op_low}

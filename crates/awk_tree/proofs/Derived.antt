@@ -4,7 +4,8 @@ use Rattle.std.specs.Prelude.{nat_le}
 use Rattle.std.proofs.lemmas.Bool.{le-leb}
 use Rattle.std.proofs.lemmas.List.{append-nil}
 use Rattle.awk_grammar.specs.Token.{Assign, Or, And, Match, Compare, Mul, Pow, Token, Name, InWord, Comma, StepMark}
-use Rattle.awk_grammar.specs.Tree.{Op, Join, Add, Other, Tree, Bin, Trees, NoTree, Then, op_tokens, op_left, op_right, op_allowed, print, print_list, print_more, level, edge, is_field, fits, class_at, takes, MayJoin as MayStandJoined, IsSome, IsWellFormed, AreWellFormed}
+use Rattle.awk_grammar.specs.Tree.{op_tokens, op_left, op_right, op_allowed, print, print_list, print_more, level, edge, is_field, fits, class_at, takes, MayJoin as MayStandJoined, IsSome, IsWellFormed, AreWellFormed}
+use Rattle.awk_grammar.specs.Trees.{Op, Join, Add, Other, Tree, Bin, Trees, NoTree, Then}
 use Rattle.awk_tree.specs.Ends.{MayJoin}
 use Rattle.awk_tree.specs.Expressions.{Nonterminal, Expr, CondExpr, TailExpr, AssignExpr, OrExpr, AndExpr, InExpr, MatchExpr, CompareExpr, ConcatExpr, AddExpr, MulExpr, UnaryExpr, PowerExpr, Exponent, PostfixExpr, PrimaryExpr, SimpleExpr, LValue, FieldOperand, Derives, expr_cond, expr_tail, or_tail, tail_assign, and_assign, assign, cond_or, choice, or_and, or, and_in, and, in_match, has, has_list, match_compare, matching, compare_concat, compare, concat_add, concat, add_mul, add, mul_unary, mul, unary, unary_power, power_postfix, power, signed_exponent, exponent, step_after, step_before, postfix_primary, primary_simple, getline, getline_variable, getline_source, getline_variable_source, literal, variable, group, call, apply, bare_length, name, element, field, field_simple, field_step, field_unary, ListOf, last, more, ArgumentsOf, none, some}
 use Rattle.awk_tree.proofs.Ends.{takes_free, joined_takes, starts, compared_takes, compared_allowed}

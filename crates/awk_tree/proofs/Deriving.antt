@@ -4,7 +4,8 @@ use Rattle.std.specs.Prelude.{nat_le}
 use Rattle.std.proofs.lemmas.Bool.{leb-true}
 use Rattle.std.proofs.lemmas.List.{append-nil}
 use Rattle.awk_grammar.specs.Token.{Prefix, Assign, Or, And, Match, Compare, Mul, Pow, Token}
-use Rattle.awk_grammar.specs.Tree.{Op, Join, Add, Other, Tree, Leaf, Length, Var, Index, Field, Group, Call, Apply, Unary, Pre, Post, Bin, Has, HasList, Cond, Get, GetInto, GetFrom, GetIntoFrom, Trees, NoTree, Then, op_level, print, print_list, level, edge, is_field, IsSome, IsWellFormed, AreWellFormed}
+use Rattle.awk_grammar.specs.Tree.{op_level, print, print_list, level, edge, is_field, IsSome, IsWellFormed, AreWellFormed}
+use Rattle.awk_grammar.specs.Trees.{Op, Join, Add, Other, Tree, Leaf, Length, Var, Index, Field, Group, Call, Apply, Unary, Pre, Post, Bin, Has, HasList, Cond, Get, GetInto, GetFrom, GetIntoFrom, Trees, NoTree, Then}
 use Rattle.awk_tree.specs.Expressions.{Nonterminal, Expr, TailExpr, AssignExpr, OrExpr, AndExpr, InExpr, MatchExpr, CompareExpr, ConcatExpr, AddExpr, MulExpr, UnaryExpr, PowerExpr, Exponent, PostfixExpr, SimpleExpr, LValue, FieldOperand, Derives, expr_cond, expr_tail, or_tail, tail_assign, and_assign, assign, cond_or, choice, or_and, or, and_in, and, in_match, has, has_list, match_compare, matching, compare_concat, compare, concat_add, concat, add_mul, add, mul_unary, mul, unary, unary_power, power_postfix, power, signed_exponent, exponent, step_after, step_before, postfix_primary, primary_simple, getline, getline_variable, getline_source, getline_variable_source, literal, variable, group, call, apply, bare_length, name, element, field, field_simple, field_step, field_unary, ListOf, last, more, ArgumentsOf, none, some}
 use Rattle.awk_tree.proofs.Ends.{may_join, may_compare}
 use Rattle.awk_tree.proofs.Levels.{own_edge, Edged, Tight, Open, edged}

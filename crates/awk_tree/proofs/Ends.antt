@@ -2,7 +2,8 @@
 use Rattle.std.proofs.Common.{◌≡◌, ℕ, Bool, true, false, ◌||◌, ◌&&◌, List, [], ◌∷◌, ◌++◌, refl, sym, subst, append_assoc}
 use Rattle.std.proofs.lemmas.List.{append-nil}
 use Rattle.awk_grammar.specs.Token.{Not, Signed, Less, LessEqual, Equal, NotEqual, Greater, GreaterEqual, Comparison, Compare, Token, Lit, Name, FuncName, Word, GetlineWord, Dollar, Open, SignMark, NotMark, StepMark, Infix}
-use Rattle.awk_grammar.specs.Tree.{Tree, Leaf, Length, Var, Index, Field, Group, Call, Apply, Unary, Pre, Post, Bin, Has, HasList, Cond, Get, GetInto, GetFrom, GetIntoFrom, print, op_tokens, Class, Opens, OpensIndex, StartsLValue, IsLess, Steps, Free, is_opens, is_index, is_start, is_less, is_steps, class_at, takes, StartsOperand, allowed}
+use Rattle.awk_grammar.specs.Tree.{print, op_tokens, Class, Opens, OpensIndex, StartsLValue, IsLess, Steps, Free, is_opens, is_index, is_start, is_less, is_steps, class_at, takes, StartsOperand, allowed}
+use Rattle.awk_grammar.specs.Trees.{Tree, Leaf, Length, Var, Index, Field, Group, Call, Apply, Unary, Pre, Post, Bin, Has, HasList, Cond, Get, GetInto, GetFrom, GetIntoFrom}
 use Rattle.awk_tree.specs.Ends.{EndsIn, whole, in_field, in_unary, in_step, in_right, in_choice, in_variable, in_source, in_last_source, IsBareLength, IsBareGetline, IsSourceless, IsVariable, BeginsWithSign, BeginsWithStep, BeginsWithOpen, BeginsVariable, MayJoin, MayCompare}
 
 -- ---- what the end of a tree takes

@@ -1,9 +1,7 @@
 -- Three scripts, derived from their tokens.
 use Rattle.std.specs.Prelude.{ℕ, Bool, Some, List, [], ◌∷◌}
 use Rattle.awk_grammar.specs.Token.{Minus, Signed, Less, NotEqual, Greater, Increment, Set, Assign, Or, Compare, Pow, Literal, Number, Quoted, BeginWord, FunctionWord, IfWord, ElseWord, ReturnWord, PrintWord, Token, Lit, Name, GetlineWord, InWord, Dollar, Open, Close, OpenBrace, CloseBrace, Comma, Semicolon, Question, Colon, SignMark, StepMark, Infix, Key}
-use Rattle.awk_grammar.specs.Tree.{Join, Other, Tree, Leaf, Var, Field, Unary, Post, Bin, Has, Cond, GetFrom, NoTree, Then}
-use Rattle.awk_grammar.specs.Stmt.{Print, Listed, Written, Eval, Put, Return, Simple, IfElse, Leave, NoStmt, And}
-use Rattle.awk_grammar.specs.Item.{One, Function, Begin, Lone}
+use Rattle.awk_grammar.specs.Trees.{Join, Other, Tree, Leaf, Var, Field, Unary, Post, Bin, Has, Cond, GetFrom, NoTree, Then, Print, Listed, Written, Eval, Put, Return, Simple, IfElse, Leave, NoStmt, And, One, Function, Begin, Lone}
 use Rattle.awk_tree.specs.Ends.{EndsIn, whole, in_field, IsBareGetline, MayJoin}
 use Rattle.awk_tree.specs.Expressions.{Expr, OrExpr, InExpr, ConcatExpr, AddExpr, PowerExpr, SimpleExpr, Derives, expr_cond, or_tail, tail_assign, assign, cond_or, choice, or_and, and_in, in_match, has, match_compare, compare_concat, compare, concat_add, concat, add_mul, mul_unary, unary, unary_power, power_postfix, power, exponent, step_after, postfix_primary, primary_simple, getline_source, literal, variable, name, field, field_simple, last, more}
 use Rattle.awk_tree.specs.Statements.{listed, written, eval, print, some_expr, plain, leave, simple, if_else, braces, no_more, one_more}

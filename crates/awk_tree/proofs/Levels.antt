@@ -3,7 +3,8 @@ use Rattle.std.proofs.Common.{◌≡◌, ◌≤◌, Bool, true, refl, arith}
 use Rattle.std.specs.Prelude.{min}
 use Rattle.std.proofs.lemmas.Bool.{leb-true, le-leb}
 use Rattle.awk_grammar.specs.Token.{Assign, Or, And, Match, Compare, Mul, Pow}
-use Rattle.awk_grammar.specs.Tree.{Op, Join, Add, Other, Tree, Leaf, Length, Var, Index, Field, Group, Call, Apply, Unary, Pre, Post, Bin, Has, HasList, Cond, Get, GetInto, GetFrom, GetIntoFrom, op_level, op_edge, op_right, level, edge, is_field, fits, IsWellFormed}
+use Rattle.awk_grammar.specs.Tree.{op_level, op_edge, op_right, level, edge, is_field, fits, IsWellFormed}
+use Rattle.awk_grammar.specs.Trees.{Op, Join, Add, Other, Tree, Leaf, Length, Var, Index, Field, Group, Call, Apply, Unary, Pre, Post, Bin, Has, HasList, Cond, Get, GetInto, GetFrom, GetIntoFrom}
 
 pub op_low : (op : Op) → op_level op ≤ 10
 op_low Join = omega arith

@@ -1,7 +1,8 @@
 -- The productions of scripts derive the well-formed ones, and nothing else.
 use Rattle.std.proofs.Common.{◌≡◌, ℕ, true, List, [], ◌∷◌, ◌++◌, refl, ap}
 use Rattle.awk_grammar.specs.Token.{Token, Name, Comma, Semicolon}
-use Rattle.awk_grammar.specs.Item.{Pattern, One, Between, Item, Function, Begin, End, Always, When, Lone, Nothing, print_params, print_pattern, print_item, print_script, IsPattern, IsItem, IsScript}
+use Rattle.awk_grammar.specs.Item.{print_params, print_pattern, print_item, print_script, IsPattern, IsItem, IsScript}
+use Rattle.awk_grammar.specs.Trees.{Pattern, One, Between, Item, Function, Begin, End, Always, When, Lone, Nothing}
 use Rattle.awk_tree.specs.Scripts.{PatternOf, one, range, NamesOf, last_name, more_names, ParametersOf, no_names, names, ItemOf, function, begin, end, always, when, lone, nothing, ScriptOf, no_item, item}
 use Rattle.awk_tree.proofs.Derived.{derived}
 use Rattle.awk_tree.proofs.Deriving.{deriving_of}

@@ -1,8 +1,8 @@
 -- The productions of statements derive the well-formed ones, and nothing else.
 use Rattle.std.proofs.Common.{◌≡◌, true, false, Option, Some, None, List, [], ◌∷◌, ◌++◌, refl, ap}
 use Rattle.awk_grammar.specs.Token.{Token, Semicolon}
-use Rattle.awk_grammar.specs.Tree.{Tree}
-use Rattle.awk_grammar.specs.Stmt.{Printing, Print, Printf, Args, NoArgs, Listed, Enclosed, Target, NoTarget, Written, Appended, Plain, Eval, Put, Delete, Clear, Stmt, Block, Empty, Simple, If, IfElse, While, Do, For, ForIn, Jumping, Leave, Stmts, NoStmt, And, print_args, print_target, print_plain, print_maybe, print_maybe_plain, print_stmt, print_stmts, IsArgs, IsTarget, IsPlain, IsMaybe, IsMaybePlain, dangles, IsStmt, AreStmts}
+use Rattle.awk_grammar.specs.Trees.{Tree, Printing, Print, Printf, Args, NoArgs, Listed, Enclosed, Target, NoTarget, Written, Appended, Plain, Eval, Put, Delete, Clear, Stmt, Block, Empty, Simple, If, IfElse, While, Do, For, ForIn, Jumping, Leave, Stmts, NoStmt, And}
+use Rattle.awk_grammar.specs.Stmt.{print_args, print_target, print_plain, print_maybe, print_maybe_plain, print_stmt, print_stmts, IsArgs, IsTarget, IsPlain, IsMaybe, IsMaybePlain, dangles, IsStmt, AreStmts}
 use Rattle.awk_grammar.specs.Item.{print_body}
 use Rattle.awk_tree.specs.Statements.{PrintListOf, listed as listed_args, enclosed, OutputOf, no_output, written, appended, PlainOf, eval, bare_print, print, printf, delete, delete_all, MaybeExprOf, no_expr, some_expr, MaybePlainOf, no_plain, some_plain, SimpleOf, plain, jumping, leave, EndsInIf, bare, in_else, in_while, in_for, in_for_in, StmtOf, block, empty, simple, if_then, if_else, while, do_while, for_loop, for_in, BlockOf, braces, StmtsOf, no_more, one_more}
 use Rattle.awk_tree.proofs.Ends.{not_both}

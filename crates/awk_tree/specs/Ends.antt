@@ -1,7 +1,7 @@
 -- How an expression ends and begins: the conditions that stand beside the productions.
 use Rattle.std.specs.Prelude.{◌≡◌, true, Bool, List, ◌∷◌}
 use Rattle.awk_grammar.specs.Token.{Prefix, Step, Less, Greater, Comparison, Token, Name, Dollar, Open, SignMark, StepMark}
-use Rattle.awk_grammar.specs.Tree.{Tree, Length, Var, Index, Field, Unary, Pre, Bin, Cond, Get, GetInto, GetFrom, GetIntoFrom, Op}
+use Rattle.awk_grammar.specs.Trees.{Tree, Length, Var, Index, Field, Unary, Pre, Bin, Cond, Get, GetInto, GetFrom, GetIntoFrom, Op}
 
 -- the last tokens of an expression are those of a part that is so
 pub data EndsIn (Is : Tree → Type 0) : Tree → Type 0 where

@@ -5,7 +5,7 @@ use Rattle.std.specs.Prelude.{ℕ, Bool, true, List, [], ◌∷◌, ◌++◌}
 use Rattle.awk_grammar.specs.Token.{Sign, Prefix, Step, Comparison, Less, Matching, Product, Assigning, Assign, Or, And, Match, Compare, Mul, Pow, Literal, Token, Lit, Name, FuncName, Word, GetlineWord, InWord, Dollar, Open, Close, OpenBracket, CloseBracket, Comma, Question, Colon, SignMark, StepMark, Infix}
 use Rattle.awk_tokens.specs.declared.reserved_words.Builtin.{Builtin}
 use Rattle.awk_tokens.specs.declared.reserved_words.Builtin.TheVariants as function
-use Rattle.awk_grammar.specs.Tree.{Join, Add, Other, Tree, Leaf, Length, Var, Index, Field, Group, Call, Apply, Unary, Pre, Post, Bin, Has, HasList, Cond, Get, GetInto, GetFrom, GetIntoFrom, Trees, NoTree, Then, prefix_token}
+use Rattle.awk_grammar.specs.Trees.{Join, Add, Other, Tree, Leaf, Length, Var, Index, Field, Group, Call, Apply, Unary, Pre, Post, Bin, Has, HasList, Cond, Get, GetInto, GetFrom, GetIntoFrom, Trees, NoTree, Then, prefix_token}
 use Rattle.awk_tree.specs.Ends.{IsVariable, MayJoin, MayCompare}
 
 -- From the loosest to the tightest. A TailExpr ends in an assignment, which so may stand without parentheses at the end of `||` and `&&`.

@@ -1,9 +1,7 @@
 -- The places of scripts, computed: how many tokens stand before each.
 use Rattle.std.specs.Prelude.{◌≡◌, List, [], ◌∷◌, codes, Some, None, refl}
-use Rattle.awk_grammar.specs.Tree as tree
-use Rattle.awk_grammar.specs.Tree.{Tree}
-use Rattle.awk_grammar.specs.Stmt.{Stmt, Stmts, Block, Simple, Eval, If, While, Do, For, NoStmt, And}
-use Rattle.awk_grammar.specs.Item.{Item, One, Between, Function, Begin, End, When, Lone}
+use Rattle.awk_grammar.specs.Trees as tree
+use Rattle.awk_grammar.specs.Trees.{Tree, Stmt, Stmts, Block, Simple, Eval, If, While, Do, For, NoStmt, And, Item, One, Between, Function, Begin, End, When, Lone}
 use Rattle.awk_tree.specs.Lines.{function_names, main_places, places_in}
 
 -- x ;

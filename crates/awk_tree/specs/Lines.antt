@@ -3,9 +3,10 @@
 use Rattle.std.specs.Prelude.{ℕ, zero, suc, Bool, true, false, List, [], ◌∷◌, ◌++◌, length, Option, Some, None, option_map, unwrap_or, replicate, slice_get, if◌then◌else◌}
 use Rattle.awk_tokens.specs.Cutting.{Spelled}
 use Rattle.awk_grammar.specs.Token.{BeginWord, EndWord, FunctionWord, IfWord, ElseWord, WhileWord, ForWord, DoWord, Token, Name, InWord, Open, Close, OpenBrace, CloseBrace, Comma, Semicolon, Key}
-use Rattle.awk_grammar.specs.Tree.{Tree, print}
-use Rattle.awk_grammar.specs.Stmt.{Plain, NextFile, Stmt, Block, Empty, Simple, If, IfElse, While, Do, For, ForIn, Jumping, Leave, Stmts, NoStmt, And, print_maybe, print_maybe_plain, print_stmt, print_stmts}
-use Rattle.awk_grammar.specs.Item.{One, Between, Pattern, Item, Function, Begin, End, Always, When, Lone, Nothing, print_body, print_params, print_pattern, print_item}
+use Rattle.awk_grammar.specs.Tree.{print}
+use Rattle.awk_grammar.specs.Trees.{Tree, Plain, NextFile, Stmt, Block, Empty, Simple, If, IfElse, While, Do, For, ForIn, Jumping, Leave, Stmts, NoStmt, And, One, Between, Pattern, Item, Function, Begin, End, Always, When, Lone, Nothing}
+use Rattle.awk_grammar.specs.Stmt.{print_maybe, print_maybe_plain, print_stmt, print_stmts}
+use Rattle.awk_grammar.specs.Item.{print_body, print_params, print_pattern, print_item}
 
 -- Statements. The first argument is the tokens before; a place is their number.
 

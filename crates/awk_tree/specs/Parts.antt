@@ -1,6 +1,6 @@
 -- The parts of `main` that the code knows.
 use Rattle.std.specs.Prelude.{Bool}
-use Rattle.awk_grammar.specs.Item.{Item}
+use Rattle.awk_grammar.specs.Trees.{Item}
 use Rattle.awk_tree.specs.declared.lines.items.Part.{Part}
 use Rattle.awk_tree.specs.declared.lines.items.Part.TheVariants as parts
 use Rattle.awk_tree.specs.Lines.{is_begin, is_end, is_for_records}

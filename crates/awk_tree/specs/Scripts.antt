@@ -1,9 +1,7 @@
 -- The grammar of items and scripts, with a constructor for each production.
 use Rattle.std.specs.Prelude.{ℕ, true, List, [], ◌∷◌, ◌++◌}
 use Rattle.awk_grammar.specs.Token.{BeginWord, EndWord, FunctionWord, Token, Name, Open, Close, Comma, Semicolon, Key}
-use Rattle.awk_grammar.specs.Tree.{Tree}
-use Rattle.awk_grammar.specs.Stmt.{Stmts}
-use Rattle.awk_grammar.specs.Item.{Pattern, One, Between, Item, Function, Begin, End, Always, When, Lone, Nothing}
+use Rattle.awk_grammar.specs.Trees.{Tree, Stmts, Pattern, One, Between, Item, Function, Begin, End, Always, When, Lone, Nothing}
 use Rattle.awk_tree.specs.Expressions.{Expr, Derives}
 use Rattle.awk_tree.specs.Statements.{BlockOf}
 

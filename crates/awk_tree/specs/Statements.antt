@@ -1,8 +1,7 @@
 -- The grammar of statements, with a constructor for each production, as in the grammar of expressions.
 use Rattle.std.specs.Prelude.{ℕ, true, false, Option, Some, None, List, [], ◌∷◌, ◌++◌}
 use Rattle.awk_grammar.specs.Token.{Greater, Compare, IfWord, ElseWord, WhileWord, ForWord, DoWord, DeleteWord, PrintWord, PrintfWord, Token, Name, InWord, Open, Close, OpenBracket, CloseBracket, OpenBrace, CloseBrace, Comma, Semicolon, Infix, Append, Key}
-use Rattle.awk_grammar.specs.Tree.{Tree, Trees}
-use Rattle.awk_grammar.specs.Stmt.{Print, Printf, Args, NoArgs, Listed, Enclosed, Target, NoTarget, Written, Appended, Plain, Eval, Put, Delete, Clear, Jump, Leaving, Stmt, Block, Empty, Simple, If, IfElse, While, Do, For, ForIn, Jumping, Leave, Stmts, NoStmt, And, jump_token, leaving_token}
+use Rattle.awk_grammar.specs.Trees.{Tree, Trees, Print, Printf, Args, NoArgs, Listed, Enclosed, Target, NoTarget, Written, Appended, Plain, Eval, Put, Delete, Clear, Jump, Leaving, Stmt, Block, Empty, Simple, If, IfElse, While, Do, For, ForIn, Jumping, Leave, Stmts, NoStmt, And, jump_token, leaving_token}
 use Rattle.awk_tree.specs.Expressions.{Expr, ConcatExpr, Derives, ListOf}
 
 pub data PrintListOf : Args → List Token → Type 0 where

@@ -2,7 +2,8 @@
 
 ghost use Rattle.std.specs.Prelude.{◌≡◌, ◌&&◌, true};
 ghost use Rattle.awk_grammar.specs.Token.{Assign};
-ghost use Rattle.awk_grammar.specs.Tree.{Other, suits};
+ghost use Rattle.awk_grammar.specs.Tree.{suits};
+ghost use Rattle.awk_grammar.specs.Trees.{Other};
 ghost use Rattle.awk_grammar.specs.WellFormed.{joins, is_some_tree, well_formed, all_well_formed};
 ghost use Rattle.awk_grammar.specs.View.{view, views, view_binary, view_assign};
 

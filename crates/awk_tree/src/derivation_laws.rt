@@ -2,8 +2,9 @@
 ghost use Rattle.std.specs.Prelude.{◌≡◌, ◌↔◌, Bool, List};
 ghost use Rattle.awk_tokens.specs.Cutting.{Spelled};
 ghost use Rattle.awk_grammar.specs.Token.{Token};
-ghost use Rattle.awk_grammar.specs.Tree.{Tree, print, IsWellFormed};
-ghost use Rattle.awk_grammar.specs.Item.{Item, IsScript, print_script};
+ghost use Rattle.awk_grammar.specs.Tree.{print, IsWellFormed};
+ghost use Rattle.awk_grammar.specs.Trees.{Tree, Item};
+ghost use Rattle.awk_grammar.specs.Item.{IsScript, print_script};
 ghost use Rattle.awk_grammar.specs.Lexeme.{spoken};
 ghost use Rattle.awk_grammar.specs.TreeOf.{IsTreeOf};
 ghost use Rattle.awk_tree.specs.Expressions.{Expr, Derives};

@@ -3,7 +3,8 @@
 ghost use Rattle.std.specs.Prelude.{◌≡◌, [], ◌∷◌, ◌++◌, OnOk};
 ghost use Rattle.awk_grammar.specs.Token.{Close, DoWord, ElseWord, ForWord, InWord, Key, Name, Open, Semicolon, WhileWord};
 ghost use Rattle.awk_grammar.specs.Tree.{print};
-ghost use Rattle.awk_grammar.specs.Stmt.{print_args, print_target, print_plain, print_maybe, print_maybe_plain, printing_token, jump_token, leaving_token, print_stmt, print_stmts};
+ghost use Rattle.awk_grammar.specs.Stmt.{print_args, print_target, print_plain, print_maybe, print_maybe_plain, printing_token, print_stmt, print_stmts};
+ghost use Rattle.awk_grammar.specs.Trees.{jump_token, leaving_token};
 ghost use Rattle.awk_grammar.specs.Item.{print_body};
 ghost use Rattle.awk_grammar.specs.Lexeme.{keyword_lexeme, lexemes};
 ghost use Rattle.awk_grammar.specs.View.{view};

@@ -2,7 +2,8 @@
 
 ghost use Rattle.std.specs.Prelude.{◌≡◌, [], ◌∷◌, ◌++◌, ◌<◌, length, drop, MatchOption, OnOk};
 ghost use Rattle.awk_grammar.specs.Token.{Infix, Assign, Compare, Less, StepMark, Name, GetlineWord, InWord, Open, Close};
-ghost use Rattle.awk_grammar.specs.Tree.{op_tokens, prefix_token, print, print_list, print_more};
+ghost use Rattle.awk_grammar.specs.Tree.{op_tokens, print, print_list, print_more};
+ghost use Rattle.awk_grammar.specs.Trees.{prefix_token};
 ghost use Rattle.awk_grammar.specs.Lexeme.{lexeme, lexemes, keyword_lexeme, mark_lexeme};
 ghost use Rattle.awk_grammar.specs.View.{view, views, view_step, view_unary, view_binary, view_assign};
 

@@ -1,4 +1,4 @@
 pub mod Printing
-pub mod Spelled
 pub mod Equals
 pub mod Words
+pub mod Pairs

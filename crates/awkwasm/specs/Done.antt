@@ -15,8 +15,8 @@ use Rattle.run_tasks.specs.Runs.{IsUncompiled, IsUnlined, RunsModule, RunsScript
 use Rattle.run_tasks.specs.Tasks.{IsUnreadable, task_code}
 use Rattle.run_tasks.specs.declared.task_error.TaskError.{TaskError}
 use Rattle.run_tasks.specs.declared.task_error.TaskError.TheVariants.{File, NoMemory, RandomNumbers, Unexplained}
-use Rattle.host_names.specs.Forms.{pair_of}
-use Rattle.host_names.specs.declared.names.NamedText.{NamedText}
+use Rattle.host_texts.specs.NameForms.{pair_of}
+use Rattle.host_texts.specs.declared.names.NamedText.{NamedText}
 use Rattle.awkwasm.specs.Environment.{IsSortedByName}
 use Rattle.awkwasm.specs.Explained.{IsExplanation}
 

@@ -1,10 +1,9 @@
 -- What is printed and told, computed from the definitions.
-use Rattle.std.specs.Prelude.{◌≡◌, [], ◌∷◌, Err, None, Ok, codes, refl}
+use Rattle.std.specs.Prelude.{◌≡◌, [], ◌∷◌, Err, Ok, codes, refl}
 use Rattle.std.specs.Fmt.{digits}
 use Rattle.host_imports.specs.declared.import.Import.TheVariants.{Arg, Variadic}
 use Rattle.host_imports.specs.declared.import.VariadicImport.TheVariants.{Print}
 use Rattle.run_report.specs.EndTexts.{line_of}
-use Rattle.run_report.specs.WhereTexts.{where_text}
 use Rattle.run_report.specs.declared.compile_fault.CompileFault.TheVariants.{TooLarge}
 use Rattle.run_report.specs.declared.end.Refusal.TheVariants.{Compile}
 use Rattle.run_report.specs.declared.end.RunEnd.TheVariants.{Ended, OutOfSteps, Refused}
@@ -14,14 +13,13 @@ use Rattle.run_report.specs.declared.topic.Topic.TheVariants.{Script, Status}
 use Rattle.run_tasks.specs.declared.task_error.TaskError.TheVariants.{Unexplained}
 use Rattle.script_check.specs.Page.{page_text}
 use Rattle.awkwasm.specs.Checked.{told_of}
-use Rattle.awkwasm.specs.Explained.{explanation_text, topics_text}
+use Rattle.awkwasm.specs.Explained.{topic_text, topics_text}
 use Rattle.awkwasm.specs.Printed.{imports_text, told_text}
-use Rattle.awkwasm.specs.Sights.{text_if}
 
 pub names_of_topics : topics_text (Script scripts.TooLarge ∷ Status Own ∷ []) ≡ codes "TooLarge\n0\n"
 names_of_topics = refl
 
-pub under_a_name : explanation_text (codes "Fraction") (codes "A field or another text was used as a number, and that number is not whole.") (codes "echo 0.5 | awkwasm run '{ print $1 + 1 }'") (codes "awkwasm: Fraction") (codes "int($1) cuts it to a whole number.") ≡ codes "Fraction: A field or another text was used as a number, and that number is not whole.\n\n  $ echo 0.5 | awkwasm run '{ print $1 + 1 }'\n  awkwasm: Fraction\n\nint($1) cuts it to a whole number.\n"
+pub under_a_name : topic_text (Script scripts.NotWhole) ≡ codes "NotWhole: The script has a number that is not whole. The line follows the name.\n\n  $ awkwasm run 'BEGIN { x = 0.5 }'\n  awkwasm: NotWhole 1\n\nCount in smaller units, such as cents.\n"
 under_a_name = refl
 
 pub printing_alone : imports_text (Arg ∷ Variadic Print ∷ []) ≡ codes "arg\nprint\n\nreads nothing\nmay write to the standard output, and to any file by its name\n"
@@ -39,9 +37,6 @@ own_status_is_not_told = refl
 
 pub undone_is_told : told_text (Err Unexplained) ≡ codes "awkwasm: no such name; awkwasm explain lists the names\n"
 undone_is_told = refl
-
-pub unseen_is_not_told : text_if (where_text OutOfSteps) None ≡ []
-unseen_is_not_told = refl
 
 -- a script that is too long
 pub whole_is_refused : page_text (codes "prog.awk") (codes "BEGIN") (told_of [] (Refused (Compile TooLarge))) ≡ codes "prog.awk:1:1: error: TooLarge: the whole script is refused\nBEGIN\n^\n"

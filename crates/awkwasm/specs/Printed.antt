@@ -1,7 +1,7 @@
 -- What `imports` prints, and what is told of a task.
 use Rattle.std.specs.Prelude.{ℕ, List, [], ◌∷◌, ◌++◌, Option, Result, Ok, Err, codes}
 use Rattle.std.specs.Io.KnownBytes.{Appends}
-use Rattle.host_imports.specs.Imports.{import_name}
+use Rattle.host_imports.specs.Names.{import_name}
 use Rattle.host_imports.specs.declared.import.Import.{Import}
 use Rattle.run_report.specs.EndTexts.{end_text}
 use Rattle.run_report.specs.declared.end.RunEnd.{RunEnd}

@@ -1,13 +1,12 @@
 //! The environment of a run.
-ghost use Rattle.std.specs.Prelude.{◌≡◌, option_map, IfErr, IfOk};
+ghost use Rattle.std.specs.Prelude.{◌≡◌, map, option_map, vec_items, IfOk};
 ghost use Rattle.std.specs.Cmp.Lexicographic.{slice_cmp};
 ghost use Rattle.std.specs.List.Sorted.{IsPermutation};
 ghost use Rattle.std.specs.Ordering.{nat_cmp};
-ghost use Rattle.awkwasm.specs.Done.{IsUnbegun};
-ghost use Rattle.awkwasm.specs.Environment.{IsPairIn, IsSortedByName, named_pair};
-ghost use Rattle.host_names.specs.Forms.{pair_of};
+ghost use Rattle.awkwasm.specs.Environment.{ArePairsIn, IsEnvironmentOf, IsPairIn, IsSortedByName, named_pair};
+ghost use Rattle.host_texts.specs.NameForms.{pair_of};
 
-use run_tasks::{NamedText, TaskError, named_text};
+use run_tasks::{NamedText, named_text};
 use std::alloc::{AllocError, Global};
 use std::cmp::Ordering;
 use std::env::{Env, FillError};
@@ -33,6 +32,18 @@ fn entry_at(rt: &HostRuntime, number: usize) -> Result<Option<Vec<u8>>, AllocErr
     Err(AllocError)
 }
 
+/// The entries of the environment, as the system has them.
+pub(crate) fn entries_of(rt: &HostRuntime) -> Result<Vec<Vec<u8>>, AllocError> {
+    let mut entries = Vec::new(rt.alloc());
+    for number in 0..usize::MAX {
+        let Some(entry) = entry_at(rt, number)? else {
+            break;
+        };
+        entries.push(entry)?;
+    }
+    Ok(entries)
+}
+
 /// The name and the text around the first `=` of an entry; none where it has no name or no `=`.
 fn pair_of_text(alloc: Global, entry: &str) -> Result<Option<NamedText>, AllocError>
     ensures { IfOk result (λ pair. option_map pair_of pair ≡ named_pair entry.now) }
@@ -54,14 +65,14 @@ fn pair_in(alloc: Global, entry: &[u8]) -> Result<Option<NamedText>, AllocError>
     }
 }
 
-/// The environment, as the system has it.
-fn pairs(rt: &HostRuntime) -> Result<Vec<NamedText>, AllocError> {
-    let mut pairs = Vec::new(rt.alloc());
-    for number in 0..usize::MAX {
-        let Some(entry) = entry_at(rt, number)? else {
-            break;
-        };
-        if let Some(pair) = pair_in(rt.alloc(), &entry)? {
+/// The pairs that these entries are, in their order.
+fn pairs_in(alloc: Global, entries: &[Vec<u8>]) -> Result<Vec<NamedText>, AllocError>
+    ensures { IfOk result (λ pairs. ArePairsIn (map vec_items entries.now)
+        (map pair_of pairs.items)) }
+{
+    let mut pairs = Vec::new(alloc);
+    for entry in entries {
+        if let Some(pair) = pair_in(alloc, entry)? {
             pairs.push(pair)?;
         }
     }
@@ -85,10 +96,13 @@ fn sorted(pairs: Vec<NamedText>) -> Result<Vec<NamedText>, AllocError>
     Ok(texts)
 }
 
-/// The environment, sorted by name, but for entries that are not UTF-8.
-pub(crate) fn environment_of(rt: &HostRuntime) -> Result<Vec<NamedText>, TaskError>
+/// The environment of these entries, sorted by name, but for entries that are not UTF-8.
+pub(crate) fn environment_of(
+    alloc: Global,
+    entries: &[Vec<u8>],
+) -> Result<Vec<NamedText>, AllocError>
     ensures order { IfOk result (λ texts. IsSortedByName texts.items) }
-    ensures err { IfErr result IsUnbegun }
+    ensures all { IfOk result (λ texts. IsEnvironmentOf (map vec_items entries.now) texts.items) }
 {
-    Ok(sorted(pairs(rt)?)?)
+    Ok(sorted(pairs_in(alloc, entries)?)?)
 }

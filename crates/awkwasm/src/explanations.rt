@@ -2,7 +2,7 @@
 ghost use Rattle.std.specs.Prelude.{◌≡◌, ◌++◌, Err, IfErr, IfOk, OnOk, string_bytes};
 ghost use Rattle.run_report.specs.Topics.{all_topics};
 ghost use Rattle.awkwasm.specs.Done.{IsExplained, IsNotExplained};
-ghost use Rattle.awkwasm.specs.Explained.{Explains, IsExplanation, PrintsExplanation, explanation_text, topics_text};
+ghost use Rattle.awkwasm.specs.Explained.{IsExplanation, PrintsExplanation, explanation_text, topic_text, topics_text};
 ghost use Rattle.awkwasm.specs.Printed.{line};
 
 use crate::output::write_text;
@@ -40,8 +40,12 @@ fn names_text(alloc: Global) -> Result<String, AllocError>
 
 /// What is said under a name.
 fn told(alloc: Global, name: &str, explanation: Explanation) -> Result<String, AllocError>
-    ensures { IfOk result (λ text. string_bytes text ≡ explanation_text name.now explanation.meaning.now
-        explanation.command.now explanation.shown.now explanation.advice.now) }
+    ensures { IfOk result (λ text. string_bytes text ≡ explanation_text name.now (record {
+      meaning = explanation.meaning.now;
+      command = explanation.command.now;
+      shown = explanation.shown.now;
+      advice = explanation.advice.now;
+    })) }
 {
     let mut text = String::new(alloc);
     text.push_str(name)?;
@@ -54,7 +58,7 @@ fn told(alloc: Global, name: &str, explanation: Explanation) -> Result<String, A
 
 /// What a name means, a command that it comes of and what that command says, and what to do.
 fn explanation_text(alloc: Global, topic: Topic) -> Result<String, AllocError>
-    ensures { IfOk result (λ text. Explains topic (string_bytes text)) }
+    ensures { IfOk result (λ text. string_bytes text ≡ topic_text topic) }
 {
     told(alloc, topic.name(), explain(topic))
 }

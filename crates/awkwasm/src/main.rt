@@ -1,14 +1,14 @@
 //! awkwasm: compiles AWK scripts to WebAssembly modules, and runs scripts and modules.
 #![tactic(auto)]
 
-ghost use Rattle.std.specs.Prelude.{◌≡◌, ◌⊎◌, List, map, string_bytes, true, IfErr, IfOk};
+ghost use Rattle.std.specs.Prelude.{◌≡◌, ◌≢◌, ◌⊎◌, List, map, string_bytes, true, IfErr, IfOk};
 ghost use Rattle.clap.specs.Words.{Text, kind_of, takes};
 ghost use Rattle.command_line.specs.Line.{line_app, status_of_kind};
 ghost use Rattle.command_line.specs.Spelling.{spelled_line};
 ghost use Rattle.command_line.specs.Request.{texts};
 ghost use Rattle.run_tasks.specs.declared.task_error.TaskError.TheVariants.{NoMemory};
 ghost use Rattle.awkwasm.specs.Done.{IsUnwritten};
-ghost use Rattle.awkwasm.specs.Lines.{Carries, IsToldApart, IsWordless, Refuses};
+ghost use Rattle.awkwasm.specs.Lines.{Carries, IsStatusOf, IsToldApart, IsToldFor, IsWordless, Refuses};
 
 mod checking;
 mod compiling;
@@ -60,14 +60,31 @@ fn words_of(alloc: Global, arguments: &[String]) -> Result<Vec<&str>, AllocError
 fn tell_refused(rt: &HostRuntime, error: &Error) -> Result<u8, TaskError>
     ensures ok { IfOk result (λ code. code ≡ status_of_kind (kind_of error.now)) }
     ensures err { IfErr result IsUnwritten }
+    ensures output { IfErr result
+        (λ undone. undone ≢ NoMemory → status_of_kind (kind_of error.now) ≡ 0) }
 {
+    let status = exit_status(error);
     let text = format!(in rt.alloc(); "{error}")?;
-    if error.use_stderr() {
-        tell(rt, shown(rt.alloc(), text.as_bytes())?.as_slice());
-    } else {
+    if status == 0 {
         write_text(&mut rt.stdout(), text.as_bytes())?;
+    } else {
+        tell(rt, shown(rt.alloc(), text.as_bytes())?.as_slice());
     }
-    Ok(exit_status(error))
+    Ok(status)
+}
+
+/// Tells why words are refused, with lines of the program's own for two mistakes.
+fn refuse(rt: &HostRuntime, words: &[&str], error: &Error) -> Result<u8, TaskError>
+    ensures ok { IfOk result (IsStatusOf (kind_of error.now) (texts words.now)) }
+    ensures err { IfErr result (IsToldFor (kind_of error.now) (texts words.now)) }
+{
+    if is_script_file(error, words) {
+        return Err(TaskError::ScriptFile);
+    }
+    if is_text_apart(error, words) {
+        return Err(TaskError::TextApart);
+    }
+    tell_refused(rt, error)
 }
 
 /// Does what the words ask for; the answer is the exit status.
@@ -81,12 +98,7 @@ fn answer(rt: &HostRuntime, words: &[&str]) -> Result<u8, TaskError>
     let line = spelled_line(rt.alloc(), words)?;
     match request_of(rt.alloc(), &line) {
         Err(error) if is_no_memory(&error) => Err(TaskError::NoMemory),
-        Err(error) if is_script_file(&error, words) => Err(TaskError::ScriptFile),
-        Err(error) if is_text_apart(&error, words) => Err(TaskError::TextApart),
-        Err(error) => match tell_refused(rt, &error) {
-            Ok(status) => Ok(status),
-            Err(undone) => Err(undone),
-        },
+        Err(error) => refuse(rt, words, &error),
         Ok(request) => Ok(carry_out(rt, &request)),
     }
 }

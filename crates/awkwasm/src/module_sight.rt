@@ -1,16 +1,17 @@
 //! A module's file that is run, and where the module was.
-ghost use Rattle.std.specs.Prelude.{◌⊎◌, ℕ, List, IfErr, IfOk, Ok};
+ghost use Rattle.std.specs.Prelude.{◌⊎◌, ℕ, List, not, IfErr, IfOk, Ok};
 ghost use Rattle.awkwasm.specs.Done.{Does, Exits, IsUnbegun, IsUnread};
-ghost use Rattle.awkwasm.specs.Sights.{AreLines, InOrder, Tells, text_if};
+ghost use Rattle.awkwasm.specs.Sights.{AreLines, InOrder, Tells};
 ghost use Rattle.command_line.specs.declared.Request.TheVariants.{Exec};
+ghost use Rattle.run_report.specs.WhereTexts.{is_told};
 ghost use Rattle.run_tasks.specs.ModuleWhereTexts.{module_where_text};
 ghost use Rattle.run_tasks.specs.Runs.{RunsModule, SeesModule};
 
 use crate::tasks::{Lines, MODULE_LIMIT, file_of, surroundings, tell_lines};
 use command_line::Task;
 use run_report::RunEnd;
-use run_tasks::{ModuleWhereabouts, TaskError, module_seen, module_where_text};
-use std::alloc::Global;
+use run_tasks::{ModuleWhereabouts, TaskError, is_told, module_seen, module_where_text};
+use std::alloc::{AllocError, Global};
 
 /// How a run ended, and where the module was.
 type Seen = (RunEnd, Option<ModuleWhereabouts>);
@@ -36,12 +37,13 @@ fn exec_task_where(rt: &HostRuntime, task: &Task<'_>) -> Result<Seen, TaskError>
     exec_bytes_where(rt, task, &bytes)
 }
 
-/// The lines that tell where a module was as its run ended so, if that was seen.
+/// The lines that tell where a module was as its run ended so. Where it is to be told and was not seen, memory ran out.
 fn module_lines(alloc: Global, end: &RunEnd, found: &Option<ModuleWhereabouts>) -> Lines
-    ensures { AreLines result (text_if (module_where_text end.now) found.now) }
+    ensures { AreLines (not (is_told end.now)) (module_where_text end.now) found.now result }
 {
     match found {
         Some(found) => module_where_text(alloc, end, found),
+        None if is_told(end) => Err(AllocError),
         None => Ok(Vec::new(alloc)),
     }
 }
@@ -49,9 +51,9 @@ fn module_lines(alloc: Global, end: &RunEnd, found: &Option<ModuleWhereabouts>) 
 /// Runs the module of a task, and makes the lines that tell where it was.
 fn told_exec(rt: &HostRuntime, task: &Task<'_>) -> Result<(RunEnd, Lines), TaskError>
     ensures ok { IfOk result (λ r. Does (Exec task.now) (Ok r.0)) }
-    ensures told { IfOk result (λ r. (bytes : List ℕ) × Tells (λ found. InOrder (λ environment.
-        RunsModule task.now bytes environment r.0 × SeesModule task.now bytes environment found))
-        (module_where_text r.0) r.1) }
+    ensures told { IfOk result (λ r. (bytes : List ℕ) × Tells (not (is_told r.0)) (λ found.
+        InOrder (λ environment. RunsModule task.now bytes environment r.0
+        × SeesModule task.now bytes environment found)) (module_where_text r.0) r.1) }
     ensures err { IfErr result (λ undone. IsUnread undone ⊎ IsUnbegun undone) }
 {
     let (end, found) = exec_task_where(rt, task)?;

@@ -1,21 +1,21 @@
 //! What the command line asks for, over real files.
 ghost use Rattle.std.specs.Io.KnownBytes.{Appends};
-ghost use Rattle.std.specs.Prelude.{◌≡◌, ◌⊎◌, ◌++◌, ℕ, List, map, IfErr, IfOk, Ok, OnOk};
+ghost use Rattle.std.specs.Prelude.{◌≡◌, ◌⊎◌, ◌++◌, ℕ, List, map, not, IfErr, IfOk, Ok, OnOk};
 ghost use Rattle.awkwasm.specs.Done.{Does, Exits, IsUnbegun, IsUnread, IsUnwritten, ListsSo, end_of};
 ghost use Rattle.awkwasm.specs.Environment.{IsSortedByName};
 ghost use Rattle.awkwasm.specs.Printed.{told_text};
-ghost use Rattle.awkwasm.specs.Sights.{AreLines, ScriptSeen, Tells, lines_in, text_if};
+ghost use Rattle.awkwasm.specs.Sights.{AreLines, ScriptSeen, Tells, lines_in};
 ghost use Rattle.command_line.specs.declared.Request.TheVariants.{Run};
-ghost use Rattle.host_names.specs.Forms.{pair_of};
-ghost use Rattle.host_names.specs.declared.names.NamedText.{NamedText};
-ghost use Rattle.run_report.specs.WhereTexts.{where_text};
+ghost use Rattle.host_texts.specs.NameForms.{pair_of};
+ghost use Rattle.host_texts.specs.declared.names.NamedText.{NamedText};
+ghost use Rattle.run_report.specs.WhereTexts.{is_told, where_text};
 ghost use Rattle.run_tasks.specs.Runs.{RunsModule, RunsScript};
 ghost use Rattle.run_tasks.specs.Tasks.{task_code};
 
 use crate::checking::check_file;
 use crate::compiling::compile_file;
 use crate::counting::{count_and_tell, stats_and_tell};
-use crate::environment::environment_of;
+use crate::environment::{entries_of, environment_of};
 use crate::explanations::explain_to;
 use crate::imports::imports_to;
 use crate::module_sight::exec_and_tell;
@@ -23,7 +23,8 @@ use crate::output::{unwritten, write_text};
 use command_line::{Request, Task};
 use run_report::{FileFault, RunEnd, Whereabouts, no_memory_text, status_of, tell_end, where_text};
 use run_tasks::{
-    Surroundings, TaskError, module_end, script_end, script_seen, undone_status, undone_text,
+    Surroundings, TaskError, is_told, module_end, script_end, script_seen, undone_status,
+    undone_text,
 };
 use script_code::MAX_SCRIPT_BYTES;
 use std::alloc::{AllocError, Global};
@@ -79,7 +80,7 @@ pub(crate) fn surroundings<'a>(rt: &'a HostRuntime) -> Result<Around<'a>, TaskEr
     ensures order { IfOk result (λ around. IsSortedByName around.environment.items) }
     ensures err { IfErr result IsUnbegun }
 {
-    let environment = environment_of(rt)?;
+    let environment = environment_of(rt.alloc(), &entries_of(rt)?)?;
     let state = random_state(rt)?;
     Ok(Surroundings {
         files: rt,
@@ -218,12 +219,13 @@ pub(crate) fn tell_lines(rt: &HostRuntime, told: Result<(RunEnd, Lines), TaskErr
     }
 }
 
-/// The lines that tell where a script was as its run ended so, if that was seen.
+/// The lines that tell where a script was as its run ended so. Where it is to be told and was not seen, memory ran out.
 fn where_lines(alloc: Global, end: &RunEnd, found: &Option<Whereabouts>) -> Lines
-    ensures { AreLines result (text_if (where_text end.now) found.now) }
+    ensures { AreLines (not (is_told end.now)) (where_text end.now) found.now result }
 {
     match found {
         Some(found) => where_text(alloc, end, found),
+        None if is_told(end) => Err(AllocError),
         None => Ok(Vec::new(alloc)),
     }
 }
@@ -231,7 +233,8 @@ fn where_lines(alloc: Global, end: &RunEnd, found: &Option<Whereabouts>) -> Line
 /// Runs the script of a task, and makes the lines that tell where it was.
 fn told_run(rt: &HostRuntime, task: &Task<'_>) -> Result<(RunEnd, Lines), TaskError>
     ensures ok { IfOk result (λ r. Does (Run task.now) (Ok r.0)) }
-    ensures told { IfOk result (λ r. Tells (ScriptSeen task.now r.0) (where_text r.0) r.1) }
+    ensures told { IfOk result (λ r. Tells (not (is_told r.0)) (ScriptSeen task.now r.0)
+        (where_text r.0) r.1) }
     ensures err { IfErr result IsUnbegun }
 {
     let (end, found) = run_task_where(rt, task)?;

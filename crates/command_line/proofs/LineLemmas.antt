@@ -1,6 +1,6 @@
--- The line is simple, so its matches follow from its words; and what a command is with one more argument, or a line with one more subcommand.
+-- The line is simple, and no argument has a rule on another one, so its matches and its errors follow from its words; and what a command is with one more argument, or a line with one more subcommand.
 use Rattle.std.proofs.Common.{◌≡◌, ◌∙◌, ◌||◌, false, true, ap, ap₂, refl}
-use Rattle.clap.specs.Words.{App, Rule, app_of, is_simple, rule_of, with_rule, with_subcommand}
+use Rattle.clap.specs.Words.{App, Rule, app_of, is_simple, is_simple_and_free, rule_of, with_rule, with_subcommand}
 use Rattle.clap.specs.Built.{AddsArg, AddsSubcommand}
 use Rattle.clap.specs.declared.builder.arg.Arg.{Arg}
 use Rattle.clap.specs.declared.builder.command.Command.{Command}
@@ -10,6 +10,10 @@ use Rattle.command_line.specs.Line.{Builds, line_app}
 pub line_is_simple : is_simple line_app ≡ true
 unfolding clap_on_literals
 line_is_simple = refl
+
+pub line_is_free : is_simple_and_free line_app ≡ true
+unfolding clap_on_literals
+line_is_free = refl
 
 pub one_arg : (before after : Command) (arg : Arg) (a : App) (r : Rule) → arg.global ≡ false → rule_of arg ≡ r → Builds a before → AddsArg before arg after → Builds (with_rule a r) after
 one_arg before after arg a r local rule built adds = record { is = adds.shape local ∙ ap₂ with_rule built.is rule; local = adds.globals ∙ ap₂ ◌||◌ built.local local }

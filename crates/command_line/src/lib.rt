@@ -1,9 +1,9 @@
 //! The command line of awkwasm: what it asks for, and what is said of a line that asks for nothing.
 #![tactic(auto)]
 
-ghost use Rattle.std.specs.Prelude.{◌≡◌, ◌↔◌, IfOk, IfSome, IsTrue, false};
+ghost use Rattle.std.specs.Prelude.{◌≡◌, ◌≢◌, ◌↔◌, [], IfOk, IsSomeAnd, IsTrue, false};
 ghost use Rattle.std.specs.Prelude.{Ok, Some, map, option_map, true, IfErr, codes};
-ghost use Rattle.clap.specs.Words.{App, Rule, app_of, rule_of, takes, kind_of, rows_of, found_of, matches_of, one_of, first_of, new_app, new_rule, subcommand_rows_of, subcommand_of, with_rule, with_subcommand};
+ghost use Rattle.clap.specs.Words.{App, IsAmong, Rule, app_of, fault_of, rule_of, takes, kind_of, rows_of, found_of, matches_of, one_of, first_of, new_app, new_rule, subcommand_rows_of, subcommand_of, with_rule, with_subcommand};
 ghost use Rattle.command_line.specs.Request.{Asks, IsFences, IsFlag, IsLimits, IsNumber, IsTask, texts, word_at, words_at};
 ghost use Rattle.command_line.specs.Line.{Builds, single, flag_rule, names_rule, number_rule, options_app, fences_app, names_app, limits_app, check_app, compile_app, count_app, run_app, exec_app, task_app, explain_app, imports_app, top_app, line_app, is_file_option, has_file_option, status_of_kind, takes_text, text_apart};
 
@@ -390,13 +390,17 @@ fn command<'a>(alloc: Global) -> Result<Command<'a>, AllocError>
 ///
 /// # Errors
 ///
-/// Where the words are not taken (help and the version are such answers), or for want of memory.
+/// Where the words are not taken (help and the version are such answers), for one of the causes that clap's rules give for them; or for want of memory.
 pub fn matches_of_line<'a>(alloc: Global, words: &'a [&'a str]) -> Result<ArgMatches<'a>, Error>
     ensures ok { IfOk result
         (λ m. (rows_of (found_of m) ≡ matches_of line_app (map (λ s. s.now) words.now))
         × (subcommand_rows_of m ≡ subcommand_of line_app (map (λ s. s.now) words.now))) }
     ensures err { IfErr result (λ e. takes line_app (map (λ s. s.now) words.now) ≡ true
         → kind_of e ≡ ErrorKind.OutOfMemory) }
+    ensures faultless { IfOk result
+        (λ m. fault_of line_app (map (λ s. s.now) words.now) ≡ []) }
+    ensures cause { IfErr result (λ e. kind_of e ≢ ErrorKind.OutOfMemory
+        → IsAmong (kind_of e) (fault_of line_app (map (λ s. s.now) words.now))) }
 {
     command(alloc)?.try_get_matches_from(words)
 }
@@ -571,7 +575,7 @@ fn task_of<'a>(
 
 /// What a line asks for, by its subcommand.
 fn request_in<'a>(alloc: Global, matches: &ArgMatches<'a>) -> Result<Request<'a>, AllocError>
-    ensures { IfOk result (λ request. IfSome (subcommand_rows_of matches.now)
+    ensures { IfOk result (λ request. IsSomeAnd (subcommand_rows_of matches.now)
         (λ found. Asks found.0 found.1 request)) }
 {
     match matches.subcommand() {
@@ -594,13 +598,17 @@ fn request_in<'a>(alloc: Global, matches: &ArgMatches<'a>) -> Result<Request<'a>
 ///
 /// # Errors
 ///
-/// Where the words are not taken, with the text to print (help and the version are such answers), or for want of memory. [`exit_status`]
-/// gives the program's status.
+/// Where the words are not taken, for one of the causes that clap's rules give for them, with the text to print (help and the version are such answers); or for
+/// want of memory. [`exit_status`] gives the program's status.
 pub fn request_of<'a>(alloc: Global, words: &'a [&'a str]) -> Result<Request<'a>, Error>
-    ensures asks { IfOk result (λ request. IfSome (subcommand_of line_app
+    ensures asks { IfOk result (λ request. IsSomeAnd (subcommand_of line_app
         (map (λ s. s.now) words.now)) (λ found. Asks found.0 found.1 request)) }
     ensures err { IfErr result (λ e. takes line_app (map (λ s. s.now) words.now) ≡ true
         → kind_of e ≡ ErrorKind.OutOfMemory) }
+    ensures faultless { IfOk result
+        (λ request. fault_of line_app (map (λ s. s.now) words.now) ≡ []) }
+    ensures cause { IfErr result (λ e. kind_of e ≢ ErrorKind.OutOfMemory
+        → IsAmong (kind_of e) (fault_of line_app (map (λ s. s.now) words.now))) }
 {
     let matches = matches_of_line(alloc, words)?;
     let request = request_in(alloc, &matches)?;

@@ -103,10 +103,6 @@ module _ (all : List Node) (text : List ℕ) (end : ℕ) (old new : DeadEnds) (s
 
 -- ---- a row is looked at
 
--- a row without threads
-pub empty_nowhere : (all : List Node) (text : List ℕ) (i : ℕ) (row : Row) → IsRow all row → row.count ≡ 0 → LeadsNowhere all text i row
-empty_nowhere all text i row known none = λ j s inside r. (let x = known.few r.id s r.holds in absurd (omega (arith, x, none)))
-
 -- the threads of a row are marked at its place
 module _ (all : List Node) (text : List ℕ) (at number : ℕ) (row : Row) (ends : DeadEnds) (old new : Marks) (marks : List Marks) (place : at ≡ number * ends.step) (is : slice_get marks number ≡ Some old) (kept : (place id : ℕ) → IsNoted ends.step marks place id → IsNoted ends.step ends.marks.items place id) (above : ends.floor < at) (t : AreTails all text at at true row ends) where
   pub marked_nowhere : AreAllMarked row.ranks.items old.items → LeadsNowhere all text at row

@@ -62,6 +62,7 @@ fn is_over(
 }
 
 /// Goes on from a row without the table.
+#[inline(always)]
 fn go_on(
     nodes: &[Node],
     entry: usize,
@@ -178,36 +179,22 @@ fn follow(
             return Ok(Some(best));
         }
         best = longer(row, &table.starts, at, best);
-        let step = advance(nodes, entry, classes, table, state, text[at], true, at + 1)?;
+        let to = at + 1;
+        let step = advance(nodes, entry, classes, table, state, text[at], true, to)?;
         state = step.0;
         if step.1 > 0 {
-            if is_soon(emptied, at + 1, step.1) {
-                ends.forget(at + 1);
+            if is_soon(emptied, to, step.1) {
+                ends.forget(to);
                 let best = Some(best);
-                return Ok(go_on(
-                    nodes,
-                    entry,
-                    classes,
-                    table,
-                    text,
-                    from,
-                    at + 1,
-                    state,
-                    best,
-                ));
+                return Ok(go_on(nodes, entry, classes, table, text, from, to, state, best));
             }
-            emptied = Some(at + 1);
+            emptied = Some(to);
         }
         at += 1;
     }
     ends.forget(best.1);
-    Ok(last(
-        &table.rows[state],
-        &table.starts,
-        text.len(),
-        Some(best),
-        ends,
-    ))
+    let best = Some(best);
+    Ok(last(&table.rows[state], &table.starts, text.len(), best, ends))
 }
 
 /// Goes on behind the first match, with the start of this number.

@@ -13,10 +13,8 @@ use Rattle.sem_primitives.specs.declared.sorts.Sort.TheVariants as sort
 use Rattle.awk_grammar.specs.Kinds.{special_arrays, special_scalars}
 use Rattle.awk_tokens.specs.Words.{keywords, builtins, left_out_words}
 use Rattle.awk_grammar.specs.Token as token
-use Rattle.awk_grammar.specs.Tree as tree
-use Rattle.awk_grammar.specs.Stmt as stmt
-use Rattle.awk_grammar.specs.Item as item
-use Rattle.awk_grammar.specs.Item.{Item}
+use Rattle.awk_grammar.specs.Trees as tree
+use Rattle.awk_grammar.specs.Trees.{Item}
 use Rattle.sem_scripts.specs.ScriptState.{spend_all}
 use Rattle.sem_scripts.specs.Kinds.{resolved}
 use Rattle.sem_scripts.specs.Meaning.{asked}
@@ -70,21 +68,21 @@ within = refl
 
 -- BEGIN { if (0) print 1/0; print 2^3*4 }
 abbrev constant_parts : List Item
-constant_parts = (item.Begin (stmt.And (stmt.If (tree.Leaf (token.Number (codes "0")))
-    (stmt.Simple (stmt.Put stmt.Print
-    (stmt.Listed (tree.Then (tree.Bin (tree.Other (token.Mul token.Over)) (tree.Leaf (token.Number (codes "1")))
-    (tree.Leaf (token.Number (codes "0")))) tree.NoTree)) stmt.NoTarget)))
-    (stmt.And (stmt.Simple (stmt.Put stmt.Print
-    (stmt.Listed (tree.Then (tree.Bin (tree.Other (token.Mul token.Times)) (tree.Bin (tree.Other token.Pow) (tree.Leaf (token.Number (codes "2")))
-    (tree.Leaf (token.Number (codes "3")))) (tree.Leaf (token.Number (codes "4")))) tree.NoTree)) stmt.NoTarget)) stmt.NoStmt))) ∷ []
+constant_parts = (tree.Begin (tree.And (tree.If (tree.Leaf (token.Number (codes "0")))
+    (tree.Simple (tree.Put tree.Print
+    (tree.Listed (tree.Then (tree.Bin (tree.Other (token.Mul token.Over)) (tree.Leaf (token.Number (codes "1")))
+    (tree.Leaf (token.Number (codes "0")))) tree.NoTree)) tree.NoTarget)))
+    (tree.And (tree.Simple (tree.Put tree.Print
+    (tree.Listed (tree.Then (tree.Bin (tree.Other (token.Mul token.Times)) (tree.Bin (tree.Other token.Pow) (tree.Leaf (token.Number (codes "2")))
+    (tree.Leaf (token.Number (codes "3")))) (tree.Leaf (token.Number (codes "4")))) tree.NoTree)) tree.NoTarget)) tree.NoStmt))) ∷ []
 
 -- BEGIN { print 1; print 1/0 }
 abbrev fault_reached : List Item
-fault_reached = (item.Begin (stmt.And (stmt.Simple
-    (stmt.Put stmt.Print (stmt.Listed (tree.Then (tree.Leaf (token.Number (codes "1"))) tree.NoTree)) stmt.NoTarget))
-    (stmt.And (stmt.Simple (stmt.Put stmt.Print
-    (stmt.Listed (tree.Then (tree.Bin (tree.Other (token.Mul token.Over)) (tree.Leaf (token.Number (codes "1")))
-    (tree.Leaf (token.Number (codes "0")))) tree.NoTree)) stmt.NoTarget)) stmt.NoStmt))) ∷ []
+fault_reached = (tree.Begin (tree.And (tree.Simple
+    (tree.Put tree.Print (tree.Listed (tree.Then (tree.Leaf (token.Number (codes "1"))) tree.NoTree)) tree.NoTarget))
+    (tree.And (tree.Simple (tree.Put tree.Print
+    (tree.Listed (tree.Then (tree.Bin (tree.Other (token.Mul token.Over)) (tree.Leaf (token.Number (codes "1")))
+    (tree.Leaf (token.Number (codes "0")))) tree.NoTree)) tree.NoTarget)) tree.NoStmt))) ∷ []
 
 abbrev no_job : JobForm
 no_job = record { operands = []; assigns = []; environment = [] }

@@ -17,7 +17,7 @@ use Rattle.host_values.specs.Calls.{CarriesOut}
 use Rattle.host_values.specs.Evaluations.{Evaluates, Evaluation, Values}
 use Rattle.host_values.specs.declared.reply.Evaluated.{Evaluated}
 use Rattle.host_values.specs.Forms.{HostForm}
-use Rattle.host_names.specs.Forms.{left_after}
+use Rattle.host_texts.specs.NameForms.{left_after}
 use Rattle.host_values.specs.Findings.{After, Finding, View, form_finding, viewed}
 use Rattle.host_values.specs.Shown.{SharesTables, form_with_output}
 use Rattle.host_values.specs.TableCalls.{TableCalls, answer_of_call, left_by_call}

@@ -11,7 +11,7 @@ use Rattle.host_values.specs.Forms.{Coming, HostForm, Keys, Stands, inner_of}
 use Rattle.host_streams.specs.Readers.{coming}
 use Rattle.host_worlds.specs.States.{Over, coming_of, input_at_start, with_input}
 use Rattle.host_worlds.specs.declared.input.Input.{Input}
-use Rattle.host_names.specs.declared.names.Names.{Names}
+use Rattle.host_texts.specs.declared.names.Names.{Names}
 use Rattle.host_tables.specs.Starts.{form_of}
 use Rattle.host_tables.specs.declared.start.FirstTables.{FirstTables}
 use Rattle.host_values.proofs.Showing.{shown_of}

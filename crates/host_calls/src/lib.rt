@@ -18,7 +18,7 @@ mod watched;
 
 pub use host::Host;
 pub use host_imports::{IMPORTS, Import, VariadicImport, type_of};
-pub use host_names::NamedText;
 pub use host_tables::Job;
+pub use host_texts::NamedText;
 pub use sem_primitives::Special;
 pub use watched::Watched;

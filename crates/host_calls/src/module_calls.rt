@@ -18,20 +18,19 @@ fn unknown() -> HostAnswer
 
 impl<W: World> HostCalls for Host<W> {
     ghost use Rattle.std.specs.Prelude.{false};
-    ghost use Rattle.host_values.specs.FormLaws.{form_refused, form_typed};
-    ghost use Rattle.host_values.specs.FormMeaning.{FormState, Told, form_meaning};
-    ghost use Rattle.host_calls.specs.Forms.{host_form};
+    ghost use Rattle.host_calls.specs.Runs.{Sight, given_meaning, sight};
+    ghost use Rattle.host_calls.specs.RunLaws.{given_refused, given_typed};
     ghost use Rattle.host_step.specs.HostLaws.{host_found};
     ghost use Rattle.host_imports.specs.Imports.{host_finds, host_types};
     ghost use Rattle.world_core.specs.WorldState.{Action};
 
     ghost Output = { Action };
 
-    ghost State = { FormState };
+    ghost State = { Sight W };
 
-    ghost state = { λ h. Told (host_form W.state h) };
+    ghost state = { λ h. sight W.state h };
 
-    ghost meaning = { form_meaning W.is_modelled };
+    ghost meaning = { given_meaning W.is_modelled W.did };
 
     ghost types = { host_types };
 
@@ -60,7 +59,7 @@ impl<W: World> HostCalls for Host<W> {
 
     ghost found = { host_found };
 
-    ghost typed = { form_typed W.is_modelled };
+    ghost typed = { given_typed W.is_modelled W.did };
 
-    ghost refused = { form_refused W.is_modelled };
+    ghost refused = { given_refused W.is_modelled W.did };
 }

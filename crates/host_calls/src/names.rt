@@ -6,7 +6,7 @@ ghost use Rattle.host_calls.specs.Forms.{host_form};
 ghost use Rattle.host_imports.specs.declared.import.Import.{Import};
 
 use crate::host::Host;
-use host_names::{declare, pending_name, pending_value, start_assign};
+use host_texts::{declare, pending_name, pending_value, start_assign};
 use host_values::Refusal;
 use host_worlds::{begin_end, line};
 use wasm_store::Word;

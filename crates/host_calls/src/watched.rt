@@ -12,21 +12,20 @@ pub struct Watched<W: World> {
 }
 
 impl<W: World> HostCalls for Watched<W> {
-    ghost use Rattle.host_values.specs.FormLaws.{form_refused, form_typed};
-    ghost use Rattle.host_values.specs.FormMeaning.{FormState, Told, form_meaning};
-    ghost use Rattle.host_calls.specs.Forms.{host_form};
-    ghost use Rattle.host_calls.specs.Pauses.{keeps_fault};
+    ghost use Rattle.host_calls.specs.Runs.{Sight, given_meaning, sight};
+    ghost use Rattle.host_calls.specs.RunLaws.{given_refused, given_typed};
+    ghost use Rattle.host_calls.specs.Pauses.{pauses};
     ghost use Rattle.host_step.specs.HostLaws.{host_found};
     ghost use Rattle.host_imports.specs.Imports.{host_finds, host_types};
     ghost use Rattle.world_core.specs.WorldState.{Action};
 
     ghost Output = { Action };
 
-    ghost State = { FormState };
+    ghost State = { Sight W };
 
-    ghost state = { λ h. Told (host_form W.state h.host) };
+    ghost state = { λ h. sight W.state h.host };
 
-    ghost meaning = { form_meaning W.is_modelled };
+    ghost meaning = { given_meaning W.is_modelled W.did };
 
     ghost types = { host_types };
 
@@ -41,7 +40,7 @@ impl<W: World> HostCalls for Watched<W> {
         self.host.call(import, args, memory)
     }
 
-    ghost halts = { keeps_fault };
+    ghost halts = { pauses };
 
     #[inline(always)]
     fn is_halting(&self) -> bool {
@@ -50,7 +49,7 @@ impl<W: World> HostCalls for Watched<W> {
 
     ghost found = { host_found };
 
-    ghost typed = { form_typed W.is_modelled };
+    ghost typed = { given_typed W.is_modelled W.did };
 
-    ghost refused = { form_refused W.is_modelled };
+    ghost refused = { given_refused W.is_modelled W.did };
 }

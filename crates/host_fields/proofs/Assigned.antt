@@ -8,7 +8,7 @@ use Rattle.awk_values.specs.declared.value.Value.TheVariants.{StrNum, Uninit}
 use Rattle.sem_primitives.specs.FieldMeaning.{at_least, field_number, joined, resized, special_text}
 use Rattle.sem_primitives.specs.SharedState.{Inner}
 use Rattle.sem_primitives.specs.declared.constants.Special.TheVariants.{Ofs}
-use Rattle.host_format.specs.Outcomes.{IsPast, IsStopOf}
+use Rattle.host_bytes.specs.Outcomes.{IsPast, IsStopOf}
 use Rattle.host_format.specs.declared.span.Span.{Span}
 use Rattle.host_fields.specs.Calls.{count_set, field_set}
 use Rattle.host_fields.specs.Held.{Held, IsOwn, fields_in, held_in, text_size, with_held}

@@ -13,7 +13,7 @@ use Rattle.sem_primitives.specs.FieldMeaning.{at_least, field_number, joined, re
 use Rattle.sem_primitives.specs.SharedState.{Inner, ◌>>=◌}
 use Rattle.sem_primitives.specs.Texts.{limited}
 use Rattle.sem_primitives.specs.declared.constants.Special.TheVariants.{Ofs}
-use Rattle.host_format.specs.Outcomes.{IsPast, IsStopOf}
+use Rattle.host_bytes.specs.Outcomes.{IsPast, IsStopOf}
 use Rattle.host_fields.specs.Calls.{count_set, field_set}
 use Rattle.host_fields.specs.Held.{Held, with_held}
 

@@ -6,7 +6,7 @@ use Rattle.awk_values.specs.declared.value.Value.{Value}
 use Rattle.sem_primitives.specs.SharedState.{Inner, ◌>>=◌}
 use Rattle.sem_primitives.specs.FieldMeaning.{field_number, field_of, special_text, with_count, with_field, with_record}
 use Rattle.sem_primitives.specs.declared.constants.Special.TheVariants.{Fs, Ofs, Rs}
-use Rattle.host_format.specs.Outcomes.{IsStopOf}
+use Rattle.host_bytes.specs.Outcomes.{IsStopOf}
 use Rattle.host_fields.specs.Held.{Held, with_held}
 
 -- a field is set by a number that a script gives, or NF is, or a field is read

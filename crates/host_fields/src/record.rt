@@ -4,7 +4,7 @@ ghost use Rattle.awk_values.specs.declared.value.Value.TheVariants.{StrNum, Unin
 ghost use Rattle.sem_primitives.specs.Texts.{is_empty};
 ghost use Rattle.sem_primitives.specs.FieldMeaning.{at_least, field_number};
 ghost use Rattle.sem_primitives.specs.Limits.{most_text};
-ghost use Rattle.host_format.specs.Outcomes.{IsPast, IsStopOf};
+ghost use Rattle.host_bytes.specs.Outcomes.{IsPast, IsStopOf};
 ghost use Rattle.host_fields.specs.Held.{AreHeld, IsMeasured, IsOwn, held_in};
 ghost use Rattle.host_fields.specs.Calls.{IsBeyond, IsRecordOf, IsStopOfChange, IsStopOfRecord, Makes, Reads, count_set, field_set};
 ghost use Rattle.host_fields.specs.Views.{IsMissing, lent, viewed};

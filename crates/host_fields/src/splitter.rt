@@ -1,7 +1,7 @@
 //! What separates fields, kept from one record to the next.
 ghost use Rattle.std.specs.Prelude.{◌≡◌, IfErr, IfOk, OnOk};
 ghost use Rattle.sem_primitives.specs.Fields.{separator_of};
-ghost use Rattle.host_format.specs.Outcomes.{IsStopOf};
+ghost use Rattle.host_bytes.specs.Outcomes.{IsStopOf};
 ghost use Rattle.host_format.specs.Separators.{Separates};
 ghost use Rattle.host_fields.specs.Splits.{AreFields, IsKept};
 

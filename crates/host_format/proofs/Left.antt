@@ -10,13 +10,13 @@ use Rattle.sem_primitives.specs.FirstMatch.{first_match}
 use Rattle.sem_primitives.specs.SharedState.{◌>>=◌}
 use Rattle.sem_primitives.specs.Texts.{limited}
 use Rattle.sem_primitives.specs.TextMeaning.{behind, places, places_of, replaced, replacement}
-use Rattle.host_format.specs.Growing.{Grows, StandsAfter}
-use Rattle.host_format.specs.Outcomes.{Adds, IsPast, IsStopOf}
-use Rattle.host_format.specs.declared.growing.Growing.{Growing}
+use Rattle.host_bytes.specs.Growing.{Grows, StandsAfter}
+use Rattle.host_bytes.specs.Outcomes.{Adds, IsPast, IsStopOf}
+use Rattle.host_bytes.specs.declared.growing.Growing.{Growing}
 use Rattle.host_format.specs.Substitutions.{IsNextPlace, IsReplaced, substitution}
-use Rattle.host_format.proofs.Pieces.{rest_of}
-use Rattle.host_format.proofs.Grown.{grows_both, grows_same}
-use Rattle.host_format.proofs.Replaced.{past_is}
+use Rattle.host_bytes.proofs.Rests.{rest_of}
+use Rattle.host_bytes.proofs.Grown.{grows_both, grows_same}
+use Rattle.host_bytes.proofs.Replaced.{past_is}
 
 -- so many tries are enough for what is left; with it, the text that grows and the count are the substitution's
 pub record IsLeft (t : Tree) (by text : List ℕ) (start out : Growing) (from at : ℕ) (last : Option ℕ) (count : ℕ) : Type 0 where

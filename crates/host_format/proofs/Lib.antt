@@ -1,15 +1,7 @@
-pub mod Chosen
-pub mod Finds
 pub mod Refusals
 pub mod Firsts
 pub mod Pieces
 pub mod Opens
 pub mod Fielded
-pub mod Replaced
 pub mod Places
-pub mod Grown
 pub mod Left
-pub mod Conversions
-pub mod Numerals
-pub mod Padded
-pub mod Steps

@@ -11,7 +11,8 @@ use Rattle.host_format.specs.Between.{IsOpen, separator_end}
 use Rattle.host_format.specs.Expressions.{IsFirstAt, IsFirstBy, not_empty, unless_empty}
 use Rattle.host_format.specs.Spans.{AreSpans, IsSoFar}
 use Rattle.host_format.specs.declared.span.Span.{Span}
-use Rattle.host_format.proofs.Pieces.{all_parts, begun, length_of_range, rest_of, with_rest}
+use Rattle.host_bytes.proofs.Rests.{rest_of}
+use Rattle.host_format.proofs.Pieces.{all_parts, begun, length_of_range, with_rest}
 
 abbrev End : Type 0
 End = ℕ → Option ℕ

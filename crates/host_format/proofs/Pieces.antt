@@ -2,11 +2,12 @@
 use Rattle.std.proofs.Common.{◌≡◌, ◌⊎◌, inl, inr, ℕ, zero, suc, ◌+◌, ◌-◌, ◌<◌, ◌≤◌, Bool, true, false, List, [], ◌∷◌, ◌++◌, map, length, take, drop, get_or, slice_range, Some, None, refl, sym, ap, subst, ◌∙◌, append-nil, append_assoc, arith}
 use Rattle.std.specs.Prelude.{◌||◌}
 use Rattle.std.proofs.lemmas.Bool.{false≢true, cases_Bool}
-use Rattle.std.proofs.lemmas.List.{length-drop, length-take, drop-drop, drop_more, map-append, take_all}
+use Rattle.std.proofs.lemmas.List.{length-drop, length-take, drop-drop, drop_more, map-append}
 use Rattle.std.proofs.lemmas.List.Elements.{All-nil, All-push}
 use Rattle.std.specs.List.{All}
 use Rattle.memchr.specs.Find.{IsFirstByte}
 use Rattle.sem_primitives.specs.Fields.{behind, parted}
+use Rattle.host_bytes.proofs.Rests.{rest_of}
 use Rattle.host_format.specs.Marks.{kept}
 use Rattle.host_format.specs.Spans.{AreSpans, IsInside, IsSoFar, span_text}
 use Rattle.host_format.specs.declared.span.Span.{Span}
@@ -29,9 +30,6 @@ parted_none test [] none = refl
 parted_none test (c ∷ cs) none =
     ap (λ b. behind b c (parted test cs)) (no_mark test c (none 0 (omega arith)))
     ∙ ap (λ ps. behind false c ps) (parted_none test cs (λ k less. none (suc k) (omega arith)))
-
-pub rest_of : (text : List ℕ) (from : ℕ) → slice_range text from (length text) ≡ drop from text
-rest_of text from = take_all (length text - from) (drop from text) (omega (arith, length-drop from text))
 
 -- the piece up to a mark, and the pieces from the place behind it on
 pub pieces_at : (test : Test) (text : List ℕ) (from at : ℕ) → IsFirstByte test (drop from text) (Some at) → parted test (drop from text) ≡ slice_range text from (from + at) ∷ parted test (drop (from + at + 1) text)

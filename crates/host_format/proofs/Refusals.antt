@@ -8,7 +8,7 @@ use Rattle.ere_syntax.specs.Tree.{IsWithinLimits, Tree, nesting, positions}
 use Rattle.ere_syntax.specs.declared.fault.EreFault.{EreFault}
 use Rattle.ere_syntax.specs.declared.fault.EreFault.TheVariants.{BadEre, EreTooLarge, NoMemory}
 use Rattle.ere_syntax.proofs.Scans.{text_again, text_sound}
-use Rattle.sem_primitives.specs.FirstMatch.{expression_of, or_bad, within_limits}
+use Rattle.sem_primitives.specs.Eres.{expression_of, or_bad, within_limits}
 use Rattle.sem_primitives.specs.Fields.{Blanks, Byte, Expression}
 use Rattle.sem_primitives.specs.SharedState.{◌>>=◌}
 use Rattle.ere_match.specs.declared.automaton.Auto.{Auto}
@@ -16,7 +16,7 @@ use Rattle.std.proofs.lemmas.Bool.{cases_Bool}
 use Rattle.host_format.specs.Expressions.{IsExpression, is_stop_of_ere}
 use Rattle.host_format.specs.Separators.{IsLong, Separates}
 use Rattle.host_format.specs.declared.sep.Sep.TheVariants as seps
-use Rattle.host_format.specs.Outcomes.{IsStopOf}
+use Rattle.host_bytes.specs.Outcomes.{IsStopOf}
 
 within_is : (t : Tree) → IsWithinLimits t → within_limits t ≡ Ok t
 within_is t w =

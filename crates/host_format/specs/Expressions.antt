@@ -8,7 +8,8 @@ use Rattle.ere_syntax.specs.declared.fault.EreFault.{EreFault}
 use Rattle.ere_syntax.specs.declared.fault.EreFault.TheVariants.{BadEre, EreTooLarge, NoMemory}
 use Rattle.ere_match.specs.Autos.{IsAutoOf}
 use Rattle.ere_match.specs.declared.automaton.Auto.{Auto}
-use Rattle.sem_primitives.specs.FirstMatch.{expression_of, longest}
+use Rattle.sem_primitives.specs.FirstMatch.{longest}
+use Rattle.sem_primitives.specs.Eres.{expression_of}
 
 -- an automaton of some expression
 abbrev pub IsAuto : Auto → Type 0

@@ -1,11 +1,6 @@
-pub mod Parts
-pub mod Outcomes
-pub mod Growing
 pub mod Spans
 pub mod Marks
 pub mod Expressions
 pub mod Separators
 pub mod Between
 pub mod Substitutions
-pub mod Conversions
-pub mod Steps

@@ -2,7 +2,7 @@
 use Rattle.std.specs.Prelude.{◌≡◌, ℕ, List, Ok}
 use Rattle.ere_match.specs.Autos.{IsAutoOf}
 use Rattle.sem_primitives.specs.Fields.{Separator, Blanks, Nothing, Byte, Expression, separator_of}
-use Rattle.sem_primitives.specs.FirstMatch.{expression_of}
+use Rattle.sem_primitives.specs.Eres.{expression_of}
 use Rattle.sem_primitives.specs.SharedState.{◌>>=◌}
 use Rattle.host_format.specs.declared.sep.Plain.{Plain}
 use Rattle.host_format.specs.declared.sep.Plain.TheVariants as plains

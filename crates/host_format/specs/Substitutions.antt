@@ -5,8 +5,8 @@ use Rattle.ere_syntax.specs.Tree.{Tree}
 use Rattle.sem_primitives.specs.FirstMatch.{first_match}
 use Rattle.sem_primitives.specs.SharedState.{◌>>=◌}
 use Rattle.sem_primitives.specs.Texts.{limited}
-use Rattle.host_format.specs.Growing.{Grows}
-use Rattle.host_format.specs.declared.growing.Growing.{Growing}
+use Rattle.host_bytes.specs.Growing.{Grows}
+use Rattle.host_bytes.specs.declared.growing.Growing.{Growing}
 use Rattle.sem_primitives.specs.TextMeaning.{behind, places, places_of, replaced}
 
 -- how many matches are replaced, and the new text

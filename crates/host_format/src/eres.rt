@@ -3,8 +3,9 @@ ghost use Rattle.std.specs.Prelude.{◌≡◌, ◌+◌, ◌≤◌, ℕ, IfErr, I
 ghost use Rattle.ere_syntax.specs.Tree.{Tree};
 ghost use Rattle.ere_match.specs.Autos.{IsAutoOf};
 ghost use Rattle.ere_match.specs.Ends.{AreDeadEnds};
-ghost use Rattle.sem_primitives.specs.FirstMatch.{expression_of, first_match, longest};
-ghost use Rattle.host_format.specs.Outcomes.{IsStopOf};
+ghost use Rattle.sem_primitives.specs.FirstMatch.{first_match, longest};
+ghost use Rattle.sem_primitives.specs.Eres.{expression_of};
+ghost use Rattle.host_bytes.specs.Outcomes.{IsStopOf};
 ghost use Rattle.host_format.specs.Expressions.{IsAuto, IsExpression, IsFirstBy, is_stop_of_ere, not_empty};
 
 use awk_values::{Fault, Stop};

@@ -1,7 +1,7 @@
 //! The expressions that were met last.
 ghost use Rattle.std.specs.Prelude.{◌≡◌, ◌<◌, IfErr, IfOk, IfSome, IsSome, OnOk, Some, length, slice_get, true};
-ghost use Rattle.sem_primitives.specs.FirstMatch.{expression_of};
-ghost use Rattle.host_format.specs.Outcomes.{IsStopOf};
+ghost use Rattle.sem_primitives.specs.Eres.{expression_of};
+ghost use Rattle.host_bytes.specs.Outcomes.{IsStopOf};
 
 use crate::matcher::Matcher;
 use awk_values::{Bytes, Stop};

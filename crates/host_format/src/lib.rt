@@ -3,29 +3,20 @@
 //! The automata of expressions that are met while a script runs, kept by their texts.
 #![tactic(auto)]
 
-mod conversion;
-mod converted;
-mod digits;
 mod eres;
 mod expressions;
 mod fields;
-mod formatted;
-mod growing;
 mod marks;
 mod matcher;
-mod padding;
-mod replacement;
 mod sep;
 mod span;
 mod substitution;
-mod text;
 
 pub use eres::expression;
 pub use expressions::Expressions;
 pub use fields::{split_by_expression, split_into, split_plain, split_text};
-pub use formatted::{format, format_into};
+pub use host_bytes::{format, format_into, index_of, lower, substr, substr_span, upper};
 pub use matcher::Matcher;
 pub use sep::{Plain, Sep};
 pub use span::Span;
 pub use substitution::{Substituted, substitute};
-pub use text::{index_of, lower, substr, substr_span, upper};

@@ -2,10 +2,10 @@
 ghost use Rattle.std.specs.Prelude.{◌≡◌, ◌↔◌, IfErr, IfOk, IsTrue, Ok, false};
 ghost use Rattle.ere_syntax.specs.Tree.{Tree};
 ghost use Rattle.ere_syntax.specs.FirstMatch.{IsFirstMatch, IsMatch};
-ghost use Rattle.sem_primitives.specs.FirstMatch.{expression_of};
+ghost use Rattle.sem_primitives.specs.Eres.{expression_of};
 ghost use Rattle.sem_primitives.specs.Fields.{Expression, pieces_of};
 ghost use Rattle.host_format.specs.Spans.{AreSpans};
-ghost use Rattle.host_format.specs.Outcomes.{IsStopOf};
+ghost use Rattle.host_bytes.specs.Outcomes.{IsStopOf};
 ghost use Rattle.host_format.specs.Substitutions.{substitution};
 
 use crate::eres::expression;

@@ -1,7 +1,7 @@
 //! What stands between fields.
 ghost use Rattle.std.specs.Prelude.{◌≡◌, IfErr, IfNone, IfOk, IfSome, MatchOption, Ok, length};
 ghost use Rattle.sem_primitives.specs.Fields.{separator_of};
-ghost use Rattle.host_format.specs.Outcomes.{IsStopOf};
+ghost use Rattle.host_bytes.specs.Outcomes.{IsStopOf};
 ghost use Rattle.host_format.specs.Separators.{IsAnySep, IsLong, Separates, separator_by};
 
 use crate::eres::expression;

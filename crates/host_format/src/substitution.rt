@@ -5,15 +5,14 @@ ghost use Rattle.ere_match.specs.Autos.{IsAutoOf};
 ghost use Rattle.ere_match.specs.Ends.{AreDeadEnds};
 ghost use Rattle.sem_primitives.specs.TextMeaning.{behind, is_empty_at, replacement};
 ghost use Rattle.host_format.specs.Expressions.{IsAuto};
-ghost use Rattle.host_format.specs.Growing.{Grows};
-ghost use Rattle.host_format.specs.Outcomes.{IsStopOf};
+ghost use Rattle.host_bytes.specs.Growing.{Grows};
+ghost use Rattle.host_bytes.specs.Outcomes.{IsStopOf};
 ghost use Rattle.host_format.specs.Substitutions.{IsNextPlace, IsReplaced, substitution};
 
 use crate::eres::first;
-use crate::growing::Growing;
-use crate::replacement::put_replacement;
 use awk_values::{Bytes, Fault, Stop};
 use ere_match::{Auto, DeadEnds};
+use host_bytes::{Growing, put_replacement};
 use sem_primitives::MAX_TEXT;
 use std::alloc::{AllocError, Global};
 

@@ -1,3 +1,4 @@
+pub mod Names
 pub mod Imports
 pub mod Codes
 pub mod Lines

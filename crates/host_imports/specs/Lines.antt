@@ -6,7 +6,8 @@ use Rattle.sem_primitives.specs.declared.sorts.Argument.TheVariants as argument
 use Rattle.sem_primitives.specs.declared.sorts.Answer.{Answer}
 use Rattle.sem_primitives.specs.declared.sorts.Answer.TheVariants as answer
 use Rattle.sem_primitives.specs.declared.sorts.Sort.TheVariants as sort
-use Rattle.host_imports.specs.Imports.{can_fault, can_trap, import_answer, import_arguments, import_name, import_number, imports, spends}
+use Rattle.host_imports.specs.Imports.{can_fault, can_trap, import_answer, import_arguments, imports, spends}
+use Rattle.host_imports.specs.Names.{import_name, import_number}
 use Rattle.host_imports.specs.declared.import.Import.{Import}
 
 -- H a value by its handle, which is spent, and Seen one that is only looked at; N a number, the one word of 64 bits; A an array and T an iterator,

@@ -12,7 +12,8 @@ use Rattle.wasm_store.specs.declared.trap.TrapKind.TheVariants.{BadHandle, BadPo
 use Rattle.wasm_store.specs.declared.word.Word.TheVariants.{I32, I64}
 use Rattle.wasm_types.specs.declared.types.ValType.TheVariants as ty
 use Rattle.host_step.specs.HostState.{HostState, live_values, live_arrays, live_iterators}
-use Rattle.host_imports.specs.Imports.{host_finds, import_at, import_number, imports}
+use Rattle.host_imports.specs.Imports.{host_finds, import_at, imports}
+use Rattle.host_imports.specs.Names.{import_number}
 use Rattle.host_step.specs.Examples.{Call, new, call, answers, after, done, gives, counts, fails, fails_wide, start, holding, with_fault}
 use Rattle.host_imports.specs.declared.import.Import.{Import}
 use Rattle.host_imports.specs.declared.import.Import.TheVariants.{OfPrimitive, Variadic, Arg, Drop, IterFree, FreeArray}

@@ -9,8 +9,8 @@ use Rattle.sem_primitives.specs.SharedState.{Pairs}
 use Rattle.host_arrays.specs.Pairs.{pairs_at, set_pair}
 use Rattle.host_values.specs.Forms.{Arrays}
 use Rattle.host_values.proofs.Elements.{stored-set_pair}
-use Rattle.host_names.specs.Forms.{pair_of}
-use Rattle.host_names.specs.declared.names.NamedText.{NamedText}
+use Rattle.host_texts.specs.NameForms.{pair_of}
+use Rattle.host_texts.specs.declared.names.NamedText.{NamedText}
 use Rattle.host_tables.proofs.Numbered.{pairs_put, put_next, put_twice}
 
 pub arguments_are : (n : ℕ) (texts : List (List ℕ)) → numbered n texts ≡ arguments_from n texts

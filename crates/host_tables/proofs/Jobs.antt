@@ -4,8 +4,8 @@ use Rattle.std.specs.List.{list_any}
 use Rattle.awk_values.specs.declared.fault.Fault.{Fault}
 use Rattle.awk_values.specs.declared.fault.Fault.TheVariants.{TextLimit}
 use Rattle.sem_primitives.specs.Jobs.{any_long, any_long_pair, fault_of_job, is_long}
-use Rattle.host_names.specs.Forms.{pair_of}
-use Rattle.host_names.specs.declared.names.NamedText.{NamedText}
+use Rattle.host_texts.specs.NameForms.{pair_of}
+use Rattle.host_texts.specs.declared.names.NamedText.{NamedText}
 use Rattle.host_tables.specs.Starts.{is_long_pair, job_of}
 use Rattle.host_tables.specs.declared.job.Job.{Job}
 

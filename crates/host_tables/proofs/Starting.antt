@@ -16,7 +16,7 @@ use Rattle.host_arrays.specs.Pairs.{first_arrays as no_pairs}
 use Rattle.host_texts.specs.States.{no_record, specials_of}
 use Rattle.host_values.specs.Forms.{Arrays, Coming, IsHeld, Past, Shows, Stands, state_of}
 use Rattle.host_values.proofs.Places.{added, inserted}
-use Rattle.host_names.specs.Forms.{announced, left_of}
+use Rattle.host_texts.specs.NameForms.{announced, left_of}
 use Rattle.host_tables.specs.Starts.{argv_and_environ, form_of}
 use Rattle.host_tables.specs.declared.start.FirstTables.{FirstTables}
 use Rattle.world_core.specs.WorldState.{Outside, Source}

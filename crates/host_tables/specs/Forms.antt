@@ -1,6 +1,6 @@
 -- The host's form with its tables.
-use Rattle.host_names.specs.Forms.{with_all}
-use Rattle.host_names.specs.declared.names.Names.{Names}
+use Rattle.host_texts.specs.NameForms.{with_all}
+use Rattle.host_texts.specs.declared.names.Names.{Names}
 use Rattle.host_texts.specs.States.{with_texts}
 use Rattle.host_values.specs.Forms.{HostForm}
 use Rattle.host_tables.specs.declared.tables.Tables.{Tables}

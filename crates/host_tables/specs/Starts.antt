@@ -4,8 +4,8 @@ use Rattle.std.specs.FinMap as map
 use Rattle.sem_primitives.specs.Jobs.{JobForm, is_long, arguments_from, environment_in}
 use Rattle.sem_primitives.specs.SharedState.{Shared}
 use Rattle.host_values.specs.Forms.{Arrays, Coming, HostForm}
-use Rattle.host_names.specs.Forms.{pair_of, with_all}
-use Rattle.host_names.specs.declared.names.NamedText.{NamedText}
+use Rattle.host_texts.specs.NameForms.{pair_of, with_all}
+use Rattle.host_texts.specs.declared.names.NamedText.{NamedText}
 use Rattle.host_tables.specs.declared.job.Job.{Job}
 use Rattle.host_tables.specs.declared.start.FirstTables.{FirstTables}
 

@@ -5,7 +5,7 @@ ghost use Rattle.sem_primitives.specs.Jobs.{fault_of_job, is_long};
 ghost use Rattle.host_tables.specs.Starts.{empty_job, is_long_pair, job_of};
 
 use awk_values::{Bytes, Fault};
-use host_names::NamedText;
+use host_texts::NamedText;
 use sem_primitives::MAX_TEXT;
 use std::alloc::Global;
 

@@ -4,7 +4,7 @@ ghost use Rattle.awk_values.specs.Values.{text_of_value};
 ghost use Rattle.awk_values.specs.declared.fault.Stop.TheVariants as stops;
 ghost use Rattle.sem_primitives.specs.Fields.{Separator, pieces_of};
 ghost use Rattle.sem_primitives.specs.TextMeaning.{splits_at};
-ghost use Rattle.host_format.specs.Outcomes.{IsStopOf};
+ghost use Rattle.host_bytes.specs.Outcomes.{IsStopOf};
 ghost use Rattle.host_format.specs.Separators.{IsAnySep, IsSep};
 ghost use Rattle.host_format.specs.Spans.{AreSpans};
 ghost use Rattle.host_tables.specs.Splits.{ArePieces, IsFound, Parts};

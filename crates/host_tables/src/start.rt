@@ -3,7 +3,7 @@ ghost use Rattle.std.specs.Prelude.{◌≡◌, ◌∷◌, [], IfOk, None, OnOk, 
 ghost use Rattle.std.specs.FinMap as maps;
 ghost use Rattle.sem_primitives.specs.Jobs.{arguments_from, environment_in, shared_at_start};
 ghost use Rattle.host_values.specs.Forms.{Coming, Stands};
-ghost use Rattle.host_names.specs.Forms.{pair_of};
+ghost use Rattle.host_texts.specs.NameForms.{pair_of};
 ghost use Rattle.host_step.specs.Starts.{state_at_start};
 ghost use Rattle.host_tables.specs.Starts.{argv_and_environ, form_of, job_of};
 ghost use Rattle.host_values.specs.Calls.{reserved_handle};
@@ -14,8 +14,7 @@ use crate::job::{Job, fault_of};
 use awk_values::{Bytes, Fault, Value};
 use host_arrays::Arrays;
 use host_handles::Handles;
-use host_names::{NamedText, Names};
-use host_texts::Texts;
+use host_texts::{NamedText, Names, Texts};
 use host_values::Iterators;
 use smallvec::SmallVec;
 use std::alloc::{AllocError, Global};

@@ -9,7 +9,7 @@ ghost use Rattle.host_tables.specs.Forms.{of_tables_and_names};
 use crate::byte_texts::ByteTexts;
 use crate::start::FirstTables;
 use crate::tables::Tables;
-use host_names::Names;
+use host_texts::Names;
 use host_values::Literals;
 use std::alloc::Global;
 

@@ -7,3 +7,8 @@ mod Outcomes
 mod Bounds
 mod LastOnes
 mod LastFormats
+pub mod Announced
+pub mod Assigned
+pub mod NameReading
+pub mod NameSteps
+pub mod SubstitutionStays

@@ -8,13 +8,14 @@ use Rattle.awk_values.specs.declared.value.Value.{Value}
 use Rattle.awk_values.specs.declared.value.Value.TheVariants.{Text}
 use Rattle.ere_syntax.specs.Tree.{Tree}
 use Rattle.ere_syntax.specs.FirstMatch.{IsMatch}
-use Rattle.sem_primitives.specs.FirstMatch.{expression_of, first_match, has_match}
+use Rattle.sem_primitives.specs.FirstMatch.{first_match, has_match}
+use Rattle.sem_primitives.specs.Eres.{expression_of}
 use Rattle.sem_primitives.proofs.Firsts.{has_match_is}
 use Rattle.sem_primitives.specs.Numbers.{Number}
 use Rattle.sem_primitives.specs.SharedState.{Inner, ◌>>=◌}
 use Rattle.sem_primitives.specs.TextMeaning.{match_row, match_start, matches_row, places_of, replaced, substitute_row, with_match}
 use Rattle.sem_primitives.specs.Texts.{counted, limited}
-use Rattle.host_format.specs.Outcomes.{IsStopOf}
+use Rattle.host_bytes.specs.Outcomes.{IsStopOf}
 use Rattle.sem_primitives.specs.FieldMeaning.{done}
 use Rattle.host_step.specs.HostState.{HostState}
 use Rattle.host_texts.specs.Evaluations.{settled}

@@ -23,7 +23,7 @@ use Rattle.host_step.specs.HostState.{HostState}
 use Rattle.host_step.specs.HostStep.{primitive_acts, where_fit}
 use Rattle.host_imports.specs.Imports.{spends}
 use Rattle.host_imports.specs.declared.import.Import.TheVariants.{OfPrimitive}
-use Rattle.host_format.specs.Parts.{part}
+use Rattle.host_bytes.specs.Parts.{part}
 use Rattle.host_fields.specs.Calls.{field_set}
 use Rattle.host_values.specs.Calls.{names_with}
 use Rattle.host_values.specs.Evaluations.{Values, ends_then, number_then}

@@ -13,7 +13,7 @@ use Rattle.wasm_store.specs.declared.word.Word.{Word}
 use Rattle.host_step.specs.Arguments.{no_more}
 use Rattle.host_step.specs.HostState.{HostState}
 use Rattle.host_step.specs.HostStep.{where_fit}
-use Rattle.host_format.specs.Parts.{part}
+use Rattle.host_bytes.specs.Parts.{part}
 use Rattle.host_fields.specs.Calls.{field_read, field_set}
 use Rattle.host_values.specs.Evaluations.{Evaluation, Outcome, Values, constant_then, ends_then, number_then, value_then}
 use Rattle.host_values.specs.States.{with_inner}

@@ -5,7 +5,7 @@ ghost use Rattle.sem_primitives.specs.declared.constants.Special.{Special as Any
 ghost use Rattle.sem_primitives.specs.TextMeaning.{match_length, match_row, match_start, substitute_row, with_match};
 ghost use Rattle.sem_primitives.specs.Texts.{counted};
 ghost use Rattle.host_step.specs.HostState.{HostState};
-ghost use Rattle.host_format.specs.Outcomes.{IsStopOf};
+ghost use Rattle.host_bytes.specs.Outcomes.{IsStopOf};
 ghost use Rattle.host_texts.specs.Evaluations.{match_evaluation, number_reply, settled, sub_evaluation, sub_result_evaluation};
 ghost use Rattle.host_values.specs.Evaluations.{Evaluates};
 ghost use Rattle.host_texts.specs.States.{holding, with_texts};

@@ -2,7 +2,7 @@
 ghost use Rattle.std.specs.Prelude.{◌≡◌, IfOk};
 ghost use Rattle.awk_values.specs.Values.{text_of_value};
 ghost use Rattle.host_step.specs.HostState.{HostState};
-ghost use Rattle.host_format.specs.Parts.{part};
+ghost use Rattle.host_bytes.specs.Parts.{part};
 ghost use Rattle.host_texts.specs.Evaluations.{index_evaluation, length_evaluation, lower_evaluation, substr_evaluation, substr_from_evaluation, upper_evaluation};
 ghost use Rattle.host_values.specs.Evaluations.{Evaluates};
 

@@ -3,10 +3,11 @@ ghost use Rattle.std.specs.Prelude.{◌≡◌, ◌<◌, ◌≤◌, ◌^◌, IfEr
 ghost use Rattle.awk_values.specs.Values.{text_of_value};
 ghost use Rattle.awk_values.specs.declared.fault.Stop.TheVariants as stops;
 ghost use Rattle.ere_syntax.specs.Tree.{Tree};
-ghost use Rattle.sem_primitives.specs.FirstMatch.{expression_of, first_match};
+ghost use Rattle.sem_primitives.specs.FirstMatch.{first_match};
+ghost use Rattle.sem_primitives.specs.Eres.{expression_of};
 ghost use Rattle.sem_primitives.specs.TextMeaning.{matches_row};
 ghost use Rattle.host_step.specs.HostState.{HostState};
-ghost use Rattle.host_format.specs.Outcomes.{IsStopOf};
+ghost use Rattle.host_bytes.specs.Outcomes.{IsStopOf};
 ghost use Rattle.host_texts.specs.Evaluations.{matches_evaluation, replied};
 ghost use Rattle.host_values.specs.Evaluations.{Evaluates};
 

@@ -10,7 +10,7 @@ ghost use Rattle.host_step.specs.HostState.{HostState};
 ghost use Rattle.host_step.specs.HostStep.{last_of};
 ghost use Rattle.host_imports.specs.declared.import.Import.{Import};
 ghost use Rattle.host_imports.specs.declared.import.VariadicImport.{VariadicImport};
-ghost use Rattle.host_format.specs.Outcomes.{IsStopOf};
+ghost use Rattle.host_bytes.specs.Outcomes.{IsStopOf};
 ghost use Rattle.host_values.specs.Calls.{reserved_handle, with_values};
 ghost use Rattle.host_values.specs.Evaluations.{Values};
 ghost use Rattle.host_values.specs.Fronts.{owned};

@@ -4,7 +4,7 @@ ghost use Rattle.awk_values.specs.Values.{text_of_value};
 ghost use Rattle.sem_primitives.specs.FieldMeaning.{done, set_special, set_special_row, with_record};
 ghost use Rattle.sem_primitives.specs.SharedState.{Inner, special_of};
 ghost use Rattle.host_step.specs.HostState.{HostState};
-ghost use Rattle.host_format.specs.Outcomes.{IsStopOf};
+ghost use Rattle.host_bytes.specs.Outcomes.{IsStopOf};
 ghost use Rattle.host_fields.specs.Calls.{count_set, field_read, field_set};
 ghost use Rattle.host_texts.specs.Evaluations.{done_reply, field_evaluation, get_special_evaluation, replied, set_field_evaluation, set_special_evaluation, settled};
 ghost use Rattle.host_values.specs.Evaluations.{Evaluates};

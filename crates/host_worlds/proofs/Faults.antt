@@ -13,7 +13,7 @@ use Rattle.awk_values.specs.declared.value.Value.TheVariants.{Num, StrNum, Text,
 use Rattle.sem_primitives.specs.Formats.{Conversion, Converts, Fixed, Char, Specifier, Signed, String, LowerHex, Malformed, Octal, Ordinary, Piece, Unsigned, UpperHex, byte_of_number, char_of, converted, formatted_from, pieces_of, sized, then_text}
 use Rattle.sem_primitives.specs.OutputMeaning.{formatted_values}
 use Rattle.sem_primitives.specs.SharedState.{◌>>=◌}
-use Rattle.host_format.specs.Outcomes.{IsStopOf}
+use Rattle.host_bytes.specs.Outcomes.{IsStopOf}
 use Rattle.host_worlds.specs.OutputCalls.{CountsFailure, answer_of}
 
 abbrev IsOther : Fault → Type 0

@@ -8,7 +8,7 @@ use Rattle.sem_primitives.specs.InputMeaning.{Taken, counted_record, getline_by,
 use Rattle.sem_primitives.specs.SharedState.{Inner, ◌>>=◌}
 use Rattle.sem_primitives.specs.declared.answers.InputAnswer.{InputAnswer}
 use Rattle.sem_primitives.specs.declared.answers.InputAnswer.TheVariants.{Read}
-use Rattle.host_format.specs.Outcomes.{IsStopOf}
+use Rattle.host_bytes.specs.Outcomes.{IsStopOf}
 use Rattle.host_worlds.specs.Givens.{GivesMain, RowGives, answer_of, is_over, kept_by, main_of_given, main_row}
 use Rattle.host_worlds.specs.Keeps.{keep_of}
 use Rattle.host_worlds.specs.declared.input.Given.{Given}

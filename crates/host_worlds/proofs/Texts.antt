@@ -9,7 +9,7 @@ use Rattle.sem_primitives.specs.SharedState.{Inner, Shared}
 use Rattle.sem_primitives.specs.declared.constants.Destination.{Destination}
 use Rattle.world_core.specs.Traces.{Call}
 use Rattle.world_core.specs.WorldState.{Action, State}
-use Rattle.host_format.specs.Outcomes.{IsStopOf}
+use Rattle.host_bytes.specs.Outcomes.{IsStopOf}
 use Rattle.host_texts.specs.declared.specials.Specials.{Specials}
 use Rattle.host_streams.specs.Given.{IsOutput}
 use Rattle.host_streams.specs.declared.streams.Streams.{Streams}

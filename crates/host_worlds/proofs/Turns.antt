@@ -11,7 +11,7 @@ use Rattle.sem_primitives.specs.Assignments.{assigned}
 use Rattle.sem_primitives.specs.InputMeaning.{Main, go_on, made, main_input, next_operand, reach, reach_by}
 use Rattle.sem_primitives.specs.InputMeaning.{Pending as IsPending}
 use Rattle.sem_primitives.specs.SharedState.{Inner, ◌>>=◌}
-use Rattle.host_format.specs.Outcomes.{IsStopOf}
+use Rattle.host_bytes.specs.Outcomes.{IsStopOf}
 use Rattle.host_streams.specs.MainFinds.{FaultFound, StepFound, as_step, reading_found}
 use Rattle.host_streams.specs.Mains.{AnswerIs, FaultIs, MainEnds, has_operand, operands_of, reading_of, rest_of}
 use Rattle.host_streams.specs.Passing.{AreThere, Passes, RestsAfter, Takes}
@@ -21,8 +21,8 @@ use Rattle.host_streams.specs.declared.main_input.MainInput.{MainInput as Mains}
 use Rattle.host_streams.specs.declared.main_input.MainNext.{MainNext}
 use Rattle.host_streams.specs.declared.main_input.MainNext.TheVariants.{Record, Assign, Opened, End}
 use Rattle.host_streams.specs.declared.main_input.Reading.TheVariants as reading
-use Rattle.host_names.specs.Forms.{with_pending as names_pending}
-use Rattle.host_names.specs.declared.names.Names.{Names}
+use Rattle.host_texts.specs.NameForms.{with_pending as names_pending}
+use Rattle.host_texts.specs.declared.names.Names.{Names}
 use Rattle.host_worlds.specs.Givens.{AssignLive, GivesMain, NextPasses, TurnGives, faulted_by, stopped_by, may_follow}
 use Rattle.host_worlds.specs.Keeps.{IsMoved, with_main_input, with_pending}
 use Rattle.host_worlds.specs.States.{Around, Finding, Over, main_by}

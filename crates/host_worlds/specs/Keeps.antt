@@ -3,7 +3,7 @@ use Rattle.std.specs.Prelude.{◌≡◌, ℕ, Bool, Option}
 use Rattle.awk_values.specs.declared.value.Value.{Value}
 use Rattle.host_streams.specs.declared.main_input.MainInput.{MainInput}
 use Rattle.host_streams.specs.declared.streams.Streams.{Streams}
-use Rattle.host_names.specs.Forms.{with_pending as names_pending}
+use Rattle.host_texts.specs.NameForms.{with_pending as names_pending}
 use Rattle.host_worlds.specs.declared.input.Input.{Input}
 use Rattle.host_worlds.specs.declared.input.ReadInto.{ReadInto}
 use Rattle.host_worlds.specs.declared.input.ReadInto.TheVariants.{Record}

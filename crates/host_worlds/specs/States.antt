@@ -19,8 +19,8 @@ use Rattle.host_texts.specs.States.{with_texts}
 use Rattle.host_texts.specs.declared.texts.Texts.{Texts}
 use Rattle.host_values.specs.Evaluations.{Values}
 use Rattle.host_values.specs.Forms.{Arrays, Coming, HostForm}
-use Rattle.host_names.specs.Forms.{with_names}
-use Rattle.host_names.specs.declared.names.Names.{Names}
+use Rattle.host_texts.specs.NameForms.{with_names}
+use Rattle.host_texts.specs.declared.names.Names.{Names}
 use Rattle.host_worlds.specs.declared.input.Input.{Input}
 
 -- a world of which nobody else changes what names hold; or what is found, where others change it too

@@ -7,8 +7,8 @@ ghost use Rattle.host_streams.specs.OpenFiles.{WritersGo};
 ghost use Rattle.host_worlds.specs.States.{HoldsInput, Over, input_at_start, with_input};
 
 use awk_values::{Bytes, Value};
-use host_names::Names;
 use host_streams::{MainInput, Streams};
+use host_texts::Names;
 use std::alloc::Global;
 
 /// What these imports read and change, beside values, arrays and texts.

@@ -2,7 +2,7 @@
 ghost use Rattle.std.specs.Prelude.{◌≡◌, IfErr, Ok, OnOk};
 ghost use Rattle.sem_primitives.specs.InputMeaning.{main_input};
 ghost use Rattle.sem_primitives.specs.SharedState.{Inner};
-ghost use Rattle.host_format.specs.Outcomes.{IsStopOf};
+ghost use Rattle.host_bytes.specs.Outcomes.{IsStopOf};
 ghost use Rattle.host_streams.specs.Given.{GivesNone};
 ghost use Rattle.host_streams.specs.OpenFiles.{WritersGo};
 ghost use Rattle.host_worlds.specs.Finds.{FindsGiven, FindsRow};

@@ -6,7 +6,7 @@ ghost use Rattle.world_core.specs.WorldState.{Action};
 ghost use Rattle.host_imports.specs.declared.import.Import.{Import};
 ghost use Rattle.host_imports.specs.declared.import.VariadicImport.{VariadicImport};
 ghost use Rattle.host_values.specs.Forms.{HostForm};
-ghost use Rattle.host_format.specs.Outcomes.{IsStopOf};
+ghost use Rattle.host_bytes.specs.Outcomes.{IsStopOf};
 ghost use Rattle.host_streams.specs.OpenFiles.{HoldsOpen, WritersGo};
 ghost use Rattle.host_streams.specs.Given.{Gives};
 ghost use Rattle.host_streams.specs.Puts.{PutCounts};

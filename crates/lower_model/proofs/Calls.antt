@@ -7,7 +7,8 @@ use Rattle.sem_primitives.specs.declared.table.Primitive.TheVariants as row
 use Rattle.wasm_types.specs.Syntax.{Instructions}
 use Rattle.mid_program.specs.Mid.{Kind}
 use Rattle.lower_model.specs.Cells.{Cell}
-use Rattle.host_imports.specs.Imports.{import_at, import_number, import_count}
+use Rattle.host_imports.specs.Imports.{import_at, import_count}
+use Rattle.host_imports.specs.Names.{import_number}
 use Rattle.lower_model.specs.ImportCalls.{Host, call}
 use Rattle.lower_model.specs.Machine.{Code, Label, Frame, Store, at, guarded, all_live, with_answer, assigning_after, onto, width, ask as asked, enter}
 use Rattle.lower_model.specs.Small.{ask}

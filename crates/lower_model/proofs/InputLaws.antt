@@ -17,7 +17,7 @@ use Rattle.sem_primitives.specs.FieldMeaning.{set_special, with_record}
 use Rattle.ere_syntax.specs.Tree.{Tree}
 use Rattle.sem_primitives.specs.Numbers.{Number}
 use Rattle.sem_primitives.specs.Texts.{limited, counted}
-use Rattle.sem_primitives.specs.FirstMatch.{expression_of}
+use Rattle.sem_primitives.specs.Eres.{expression_of}
 use Rattle.sem_primitives.specs.TextMeaning.{substitute_row, substituted_by, replaced, places_of}
 use Rattle.sem_primitives.specs.OutputMeaning.{has_room}
 use Rattle.sem_primitives.specs.Records.{Got, Record, AtEnd, Broken}

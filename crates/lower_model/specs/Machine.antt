@@ -19,7 +19,8 @@ use Rattle.awk_values.specs.declared.value.Value.{Value}
 use Rattle.world_core.specs.WorldState.{Action}
 use Rattle.sem_scripts.specs.ScriptRun.{Ending, Ended, FaultedBy, GoesOn, Exhausted}
 use Rattle.lower_model.specs.Cells.{Cell, Bits, Held, IteratorOf, OwnedArray, LentArray, Gone, is_owned, left_by, read_global, left_in_global, cell_at, has_room, none_owned, has_owner, arrays_owned, iterators_in, tidy_locals, locals_wait, tidy_name, ended_name, globals_by, marks_fit, may_come}
-use Rattle.host_imports.specs.Imports.{import_at, import_arguments, import_count, import_number, params_of}
+use Rattle.host_imports.specs.Imports.{import_at, import_arguments, import_count, params_of}
+use Rattle.host_imports.specs.Names.{import_number}
 use Rattle.lower_model.specs.ImportCalls.{Host, call, look, carried_by}
 use Rattle.host_imports.specs.declared.import.Import.{Import}
 use Rattle.host_imports.specs.declared.import.Import.TheVariants.{FreeArray, OfPrimitive}

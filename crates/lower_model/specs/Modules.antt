@@ -9,7 +9,8 @@ use Rattle.wasm_types.specs.declared.instr.Simple.TheVariants.{Call, I32Const, I
 use Rattle.wasm_types.specs.declared.module.ExportDesc.TheVariants.{Func, Memory}
 use Rattle.mid_program.specs.Mid.{Kind, Program}
 use Rattle.mid_program.specs.Sorted.{kinds_of}
-use Rattle.host_imports.specs.Imports.{imports, import_name, import_type, module_name}
+use Rattle.host_imports.specs.Imports.{imports, import_type, module_name}
+use Rattle.host_imports.specs.Names.{import_name}
 use Rattle.lower_model.specs.Machine.{Callee}
 use Rattle.lower_model.specs.Places.{memory_of, kind_type}
 use Rattle.lower_model.specs.Small.{emit, minus_one, least}

@@ -18,7 +18,7 @@ use Rattle.wasm_types.specs.declared.instr.IRelOp.TheVariants.{Eq, LeS, Ne}
 use Rattle.wasm_types.specs.declared.instr.ITestOp.TheVariants.{Eqz}
 use Rattle.wasm_types.specs.declared.instr.CvtOp.TheVariants.{I64ExtendI32S, I64ExtendI32U}
 use Rattle.mid_program.specs.Mid.{Form, PrimitiveAnswer, NumberOrText, OptionalNumber}
-use Rattle.host_imports.specs.Imports.{import_number}
+use Rattle.host_imports.specs.Names.{import_number}
 use Rattle.lower_model.specs.Places.{Bases, text_global, handle_local, number_local}
 use Rattle.host_imports.specs.declared.import.Import.{Import}
 use Rattle.host_imports.specs.declared.import.Import.TheVariants.{OfPrimitive, Drop}

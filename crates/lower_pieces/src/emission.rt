@@ -3,7 +3,7 @@ ghost use Rattle.std.specs.Prelude.{◌≡◌, IfOk};
 ghost use Rattle.wasm_types.specs.Syntax.{Instructions, Done};
 ghost use Rattle.wasm_types.specs.View.{views};
 ghost use Rattle.wasm_types.specs.declared.instr.Simple.TheVariants.{Call};
-ghost use Rattle.host_imports.specs.Imports.{import_number};
+ghost use Rattle.host_imports.specs.Names.{import_number};
 ghost use Rattle.host_imports.specs.declared.import.Import.TheVariants.{OfPrimitive};
 ghost use Rattle.lower_model.specs.Small.{ask, ask_row, emit, emit_if, when};
 ghost use Rattle.lower_model.specs.Statements.{again, block};

@@ -7,7 +7,7 @@ use Rattle.std.specs.Global.{Vec}
 use Rattle.std.specs.List.{position_or_len}
 use Rattle.std.proofs.lemmas.Map.Text.{hash_map_updates_str}
 use Rattle.indexmap.specs.IndexMap.{IndexMap, Updates}
-use Rattle.awk_grammar.specs.Stmt.{Stmts}
+use Rattle.awk_grammar.specs.Trees.{Stmts}
 use Rattle.awk_grammar.specs.Kinds.{Function as Typed}
 use Rattle.awk_resolve.specs.ViewFunctions.{view_functions}
 use Rattle.awk_resolve.specs.ViewKinds.{view_name_kinds}

@@ -5,9 +5,7 @@ use Rattle.std.specs.Global.{Vec}
 use Rattle.std.specs.declared.alloc.Global.{Global}
 use Rattle.std.specs.declared.boxed.Box.{Box}
 use Rattle.std.proofs.Math.ListN.{drop_of_length-le}
-use Rattle.awk_grammar.specs.Tree.{Tree, Trees, NoTree, Then as ThenTree}
-use Rattle.awk_grammar.specs.Item.{Item as PlainItem}
-use Rattle.awk_grammar.specs.Stmt.{NoArgs, Block as Listed, Leave}
+use Rattle.awk_grammar.specs.Trees.{Tree, Trees, NoTree, Then as ThenTree, Item as PlainItem, NoArgs, Block as Listed, Leave}
 use Rattle.awk_grammar.specs.View.{view as tree}
 use Rattle.awk_grammar.specs.ViewStmt.{view_item, view_leaving, view_maybe, view_maybe_simple, view_pattern, view_stmt, view_stmts, view_target}
 use Rattle.awk_grammar.specs.declared.tree.Expr.{Expr}

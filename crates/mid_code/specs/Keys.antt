@@ -1,7 +1,7 @@
 -- The key of subscripts, from the code of each.
 use Rattle.std.specs.Prelude.{ℕ, List, [], ◌∷◌}
 use Rattle.sem_primitives.specs.declared.table.Primitive.TheVariants as row
-use Rattle.awk_grammar.specs.Tree.{Trees, NoTree, Then}
+use Rattle.awk_grammar.specs.Trees.{Trees, NoTree, Then}
 use Rattle.mid_program.specs.Mid.{Code, Unset}
 use Rattle.sem_scripts.specs.Names.{Scope}
 use Rattle.mid_program.specs.Translation.{code_of, host, two}

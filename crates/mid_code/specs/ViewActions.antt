@@ -1,6 +1,6 @@
 -- The code of items, as the code has it.
 use Rattle.std.specs.Prelude.{◌≡◌, ◌+◌, ℕ, List, ◌∷◌}
-use Rattle.awk_grammar.specs.Item.{Item}
+use Rattle.awk_grammar.specs.Trees.{Item}
 use Rattle.sem_scripts.specs.Items.{item_ranges}
 use Rattle.sem_scripts.specs.Names as names
 use Rattle.mid_program.specs.Translation.{begin_code, end_code, items_code}

@@ -1,7 +1,7 @@
 //! The bodies of functions.
 
 ghost use Rattle.std.specs.Prelude.{◌≡◌, List, ◌∷◌, ◌++◌, IfOk, OnOk};
-ghost use Rattle.awk_grammar.specs.Item.{Item as PlainItem};
+ghost use Rattle.awk_grammar.specs.Trees.{Item as PlainItem};
 ghost use Rattle.awk_grammar.specs.ViewStmt.{view_item, view_script, view_stmts};
 ghost use Rattle.sem_scripts.specs.Kinds.{bodies as bodies_of};
 ghost use Rattle.mid_code.specs.ViewBodies.{body_in};

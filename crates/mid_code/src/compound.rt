@@ -2,7 +2,7 @@
 
 ghost use Rattle.std.specs.Prelude.{◌≡◌, ℕ, List, ◌∷◌, Option, Some, map, IfOk, OnOk};
 ghost use Rattle.awk_grammar.specs.Token.{Ere};
-ghost use Rattle.awk_grammar.specs.Tree.{Leaf, NoTree};
+ghost use Rattle.awk_grammar.specs.Trees.{Leaf, NoTree};
 ghost use Rattle.awk_grammar.specs.View.{view as tree, view_assign, view_step};
 ghost use Rattle.awk_resolve.specs.ViewKinds.{view_name};
 ghost use Rattle.sem_primitives.specs.Constants.{flag_number};

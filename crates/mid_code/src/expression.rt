@@ -1,7 +1,7 @@
 //! The code of expressions.
 
 ghost use Rattle.std.specs.Prelude.{◌≡◌, ◌≤◌, ◌+◌, List, ◌∷◌, drop, length, map, IfOk, OnOk};
-ghost use Rattle.awk_grammar.specs.Tree.{Apply, Call, NoTree, Then};
+ghost use Rattle.awk_grammar.specs.Trees.{Apply, Call, NoTree, Then};
 ghost use Rattle.awk_grammar.specs.View.{view as tree, views as trees, view_binary};
 ghost use Rattle.awk_resolve.specs.ViewKinds.{view_name};
 ghost use Rattle.sem_primitives.specs.declared.table.Primitive.TheVariants as row;

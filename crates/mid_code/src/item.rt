@@ -1,7 +1,7 @@
 //! The code of items.
 
 ghost use Rattle.std.specs.Prelude.{◌≡◌, ◌≤◌, ◌+◌, ◌||◌, List, ◌∷◌, true, false, IfOk, OnOk};
-ghost use Rattle.awk_grammar.specs.Item.{Item as PlainItem};
+ghost use Rattle.awk_grammar.specs.Trees.{Item as PlainItem};
 ghost use Rattle.awk_grammar.specs.View.{view as tree};
 ghost use Rattle.awk_grammar.specs.ViewStmt.{view_item, view_items, view_pattern, view_stmts as tree_stmts};
 ghost use Rattle.sem_scripts.specs.Items.{item_ranges, print_record, range_count, reads_records};

@@ -1,7 +1,7 @@
 //! What an expression is, where its code depends on that.
 
 ghost use Rattle.std.specs.Prelude.{◌≡◌, ℕ, List, [], ◌∷◌, None, MatchOption, if◌then◌else◌};
-ghost use Rattle.awk_grammar.specs.Tree.{Bin, Tree, Var};
+ghost use Rattle.awk_grammar.specs.Trees.{Bin, Tree, Var};
 ghost use Rattle.awk_grammar.specs.View.{view as tree, view_binary};
 ghost use Rattle.awk_grammar.specs.Marks.{bare_name};
 ghost use Rattle.awk_text.specs.Escapes.{between};

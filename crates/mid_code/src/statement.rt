@@ -3,7 +3,7 @@
 ghost use Rattle.std.specs.Prelude.{◌≡◌, ℕ, List, None, true};
 ghost use Rattle.awk_grammar.specs.View.{view as tree, views as trees};
 ghost use Rattle.awk_grammar.specs.ViewStmt.{view_args, view_jump, view_leaving, view_maybe, view_maybe_simple, view_simple, view_stmt as tree_stmt, view_stmts as tree_stmts, view_target as tree_target, view_word};
-ghost use Rattle.awk_grammar.specs.Stmt.{Jumping, Leave};
+ghost use Rattle.awk_grammar.specs.Trees.{Jumping, Leave};
 ghost use Rattle.sem_primitives.specs.declared.table.Primitive.TheVariants as row;
 ghost use Rattle.mid_program.specs.Mid as plain;
 ghost use Rattle.sem_scripts.specs.Names as names;

@@ -13,12 +13,8 @@ use Rattle.awk_tokens.specs.declared.reserved_words.Builtin.{Builtin}
 use Rattle.awk_tokens.specs.declared.reserved_words.Builtin.TheVariants as builtin
 use Rattle.awk_grammar.specs.Token.{Sign, Plus, Minus, Prefix, Not, Signed, Increment, Decrement, Product, Times, Over as Divided, Modulo, Assigning, Set as Put, SetSum, SetProduct, SetPower, Assign, Or, And as Both, Match, Matching, Matches, Differs, Compare as Compared, Mul, Pow, Number as Numeral, Quoted, Ere}
 use Rattle.awk_grammar.specs.Token as token
-use Rattle.awk_grammar.specs.Tree as tree
-use Rattle.awk_grammar.specs.Tree.{Tree, Leaf, Length, Var, Index, Field, Group, Apply, Unary, Pre, Post, Bin, Op, Join, Add, Other, Has, HasList, Cond, GetInto, GetFrom, GetIntoFrom, Trees, NoTree}
-use Rattle.awk_grammar.specs.Stmt as stmt
-use Rattle.awk_grammar.specs.Stmt.{Stmt, Stmts, NoStmt, And}
-use Rattle.awk_grammar.specs.Item as item
-use Rattle.awk_grammar.specs.Item.{Item, Pattern}
+use Rattle.awk_grammar.specs.Trees as tree
+use Rattle.awk_grammar.specs.Trees.{Tree, Leaf, Length, Var, Index, Field, Group, Apply, Unary, Pre, Post, Bin, Op, Join, Add, Other, Has, HasList, Cond, GetInto, GetFrom, GetIntoFrom, Trees, NoTree, Stmt, Stmts, NoStmt, And, Item, Pattern}
 use Rattle.mid_program.specs.declared.mid.Arithmetic.{Arithmetic}
 use Rattle.mid_program.specs.declared.mid.Arithmetic.TheVariants as inline
 use Rattle.mid_program.specs.declared.mid.Operation.{Operation}
@@ -308,13 +304,13 @@ module _ (texts : List (List ℕ)) (scope : Scope) where
 
   -- Statements.
 
-  abbrev pub plain_step : stmt.Plain → Step
-  plain_step (stmt.Eval t) = Eval (code_of t)
-  plain_step (stmt.Put p args target) = Eval (Over (listed_of p (destination_of target)) (codes_of (with_target (operands_of args) target)))
-  plain_step (stmt.Delete a ts) = Eval (host row.Delete (two (array_code a) (key_code ts)))
-  plain_step (stmt.Clear a) = Eval (host row.Clear (one (array_code a)))
+  abbrev pub plain_step : tree.Plain → Step
+  plain_step (tree.Eval t) = Eval (code_of t)
+  plain_step (tree.Put p args target) = Eval (Over (listed_of p (destination_of target)) (codes_of (with_target (operands_of args) target)))
+  plain_step (tree.Delete a ts) = Eval (host row.Delete (two (array_code a) (key_code ts)))
+  plain_step (tree.Clear a) = Eval (host row.Clear (one (array_code a)))
 
-  abbrev pub maybe_step : Option stmt.Plain → Step
+  abbrev pub maybe_step : Option tree.Plain → Step
   maybe_step None = Block NoStep
   maybe_step (Some p) = plain_step p
 
@@ -324,23 +320,23 @@ module _ (texts : List (List ℕ)) (scope : Scope) where
 
   unfoldable mutual
     pub step_code : Stmt → Step
-    step_code (stmt.Block ss) = Block (steps_code ss)
-    step_code stmt.Empty = Block NoStep
-    step_code (stmt.Simple p) = plain_step p
-    step_code (stmt.If c s) = If (code_of c) (step_code s) (Block NoStep)
-    step_code (stmt.IfElse c s t) = If (code_of c) (step_code s) (step_code t)
-    step_code (stmt.While c s) = Loop true (code_of c) (step_code s) (Block NoStep)
-    step_code (stmt.Do s c) = Loop false (code_of c) (step_code s) (Block NoStep)
-    step_code (stmt.For i c p s) = Block (Then (maybe_step i) (Then (Loop true (test_code c) (step_code s) (maybe_step p)) NoStep))
-    step_code (stmt.ForIn k a s) = Each (array_of scope a) (store_variable_code (variable_of scope k) (moved 0)) (step_code s)
-    step_code (stmt.Jumping stmt.Break) = Break
-    step_code (stmt.Jumping stmt.Continue) = Continue
-    step_code (stmt.Jumping stmt.Next) = Next
-    step_code (stmt.Jumping stmt.NextFile) = Block (Then (Eval (host row.NextFile End)) (Then Next NoStep))
-    step_code (stmt.Leave stmt.Exit None) = Exit
-    step_code (stmt.Leave stmt.Exit (Some t)) = ExitWith (code_of t)
-    step_code (stmt.Leave stmt.Return None) = Return Unset
-    step_code (stmt.Leave stmt.Return (Some t)) = Return (code_of t)
+    step_code (tree.Block ss) = Block (steps_code ss)
+    step_code tree.Empty = Block NoStep
+    step_code (tree.Simple p) = plain_step p
+    step_code (tree.If c s) = If (code_of c) (step_code s) (Block NoStep)
+    step_code (tree.IfElse c s t) = If (code_of c) (step_code s) (step_code t)
+    step_code (tree.While c s) = Loop true (code_of c) (step_code s) (Block NoStep)
+    step_code (tree.Do s c) = Loop false (code_of c) (step_code s) (Block NoStep)
+    step_code (tree.For i c p s) = Block (Then (maybe_step i) (Then (Loop true (test_code c) (step_code s) (maybe_step p)) NoStep))
+    step_code (tree.ForIn k a s) = Each (array_of scope a) (store_variable_code (variable_of scope k) (moved 0)) (step_code s)
+    step_code (tree.Jumping tree.Break) = Break
+    step_code (tree.Jumping tree.Continue) = Continue
+    step_code (tree.Jumping tree.Next) = Next
+    step_code (tree.Jumping tree.NextFile) = Block (Then (Eval (host row.NextFile End)) (Then Next NoStep))
+    step_code (tree.Leave tree.Exit None) = Exit
+    step_code (tree.Leave tree.Exit (Some t)) = ExitWith (code_of t)
+    step_code (tree.Leave tree.Return None) = Return Unset
+    step_code (tree.Leave tree.Return (Some t)) = Return (code_of t)
 
     pub steps_code : Stmts → Steps
     steps_code NoStmt = NoStep
@@ -350,26 +346,26 @@ module _ (texts : List (List ℕ)) (scope : Scope) where
 
   -- an action where its pattern is met, which is the i-th range if it is one
   abbrev pub where_code : ℕ → Pattern → Step → Step
-  where_code i (item.One t) action = If (code_of t) action (Block NoStep)
-  where_code i (item.Between t u) action =
+  where_code i (tree.One t) action = If (code_of t) action (Block NoStep)
+  where_code i (tree.Between t u) action =
       Block (Then (If (IsOpen i) (Block NoStep) (If (code_of t) (Mark i true) (Block NoStep)))
       (Then (If (IsOpen i) (Block (Then (If (code_of u) (Mark i false) (Block NoStep)) (Then action NoStep))) (Block NoStep)) NoStep))
 
   abbrev pub items_code : ℕ → List Item → Steps
   items_code i [] = NoStep
-  items_code i (item.Always ss ∷ items) = Then (Block (steps_code ss)) (items_code i items)
-  items_code i (item.When p ss ∷ items) = Then (where_code i p (Block (steps_code ss))) (items_code (pattern_ranges p + i) items)
-  items_code i (item.Lone p ∷ items) = Then (where_code i p (Block (steps_code print_record))) (items_code (pattern_ranges p + i) items)
+  items_code i (tree.Always ss ∷ items) = Then (Block (steps_code ss)) (items_code i items)
+  items_code i (tree.When p ss ∷ items) = Then (where_code i p (Block (steps_code ss))) (items_code (pattern_ranges p + i) items)
+  items_code i (tree.Lone p ∷ items) = Then (where_code i p (Block (steps_code print_record))) (items_code (pattern_ranges p + i) items)
   items_code i (_ ∷ items) = items_code i items
 
   abbrev pub begin_code : List Item → Steps
   begin_code [] = NoStep
-  begin_code (item.Begin ss ∷ items) = Then (Block (steps_code ss)) (begin_code items)
+  begin_code (tree.Begin ss ∷ items) = Then (Block (steps_code ss)) (begin_code items)
   begin_code (_ ∷ items) = begin_code items
 
   abbrev pub end_code : List Item → Steps
   end_code [] = NoStep
-  end_code (item.End ss ∷ items) = Then (Block (steps_code ss)) (end_code items)
+  end_code (tree.End ss ∷ items) = Then (Block (steps_code ss)) (end_code items)
   end_code (_ ∷ items) = end_code items
 
 abbrev pub kind_of : Name → Kind

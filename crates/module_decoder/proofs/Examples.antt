@@ -1,6 +1,6 @@
 -- Worked modules, computed from the reader.
 use Rattle.std.proofs.Common.{◌≡◌, [], ◌∷◌, ◌++◌, Some, None, Ok, Err, refl}
-use Rattle.wasm_types.specs.Leb128.{u32_at}
+use Rattle.wasm_types.specs.Leb128Texts.{u32_at}
 use Rattle.wasm_types.specs.ModuleGrammar.{no_parts, module_of, header}
 use Rattle.module_decoder.specs.declared.fault.DecodeFault.TheVariants.{BadHeader, Truncated, BadSection, BadInteger}
 use Rattle.module_decoder.specs.Readers.{index_at}

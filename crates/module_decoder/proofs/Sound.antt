@@ -5,7 +5,8 @@ use Rattle.std.specs.Str.{is_utf8}
 use Rattle.std.proofs.lemmas.Bool.{eqb-true, leb-true}
 use Rattle.std.proofs.lemmas.List.{append-nil, take-append-drop, length-take-le}
 use Rattle.std.proofs.lemmas.Str.{IsUtf8-from_is_utf8}
-use Rattle.wasm_types.specs.Leb128.{IsU32, u32_at, s32_at, s64_at, IsS32, IsS64}
+use Rattle.wasm_types.specs.Leb128.{IsU32, IsS32, IsS64}
+use Rattle.wasm_types.specs.Leb128Texts.{u32_at, s32_at, s64_at}
 use Rattle.wasm_types.proofs.Groups.{unsigned_sound, signed_sound, u32_is, s32_is, s64_is}
 use Rattle.wasm_types.specs.Instructions.{Both, Each, IsVec, Tagged, IsIndex}
 use Rattle.wasm_types.specs.ModuleGrammar.{IsBytes, IsName, IsOption}

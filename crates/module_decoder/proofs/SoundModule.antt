@@ -7,7 +7,8 @@ use Rattle.wasm_types.specs.declared.module.SectionId.{SectionId}
 use Rattle.wasm_types.specs.Syntax.{ModuleForm}
 use Rattle.wasm_types.specs.View.{view_module}
 use Rattle.wasm_types.specs.declared.module.Module.{Module}
-use Rattle.wasm_types.specs.Leb128.{IsU32, u32_at}
+use Rattle.wasm_types.specs.Leb128.{IsU32}
+use Rattle.wasm_types.specs.Leb128Texts.{u32_at}
 use Rattle.wasm_types.specs.ModuleGrammar.{Parts, number, Section, Custom, Known, IsSection, AreSections, Give, module_of, header, IsModule}
 use Rattle.wasm_types.proofs.Groups.{unsigned_sound, u32_is}
 use Rattle.module_decoder.specs.declared.fault.DecodeFault.{DecodeFault}

@@ -3,7 +3,7 @@ use Rattle.std.specs.Prelude.{◌≡◌, ℕ, zero, suc, ◌-◌, List, [], ◌�
 use Rattle.module_decoder.specs.declared.fault.DecodeFault.{DecodeFault}
 use Rattle.module_decoder.specs.declared.fault.DecodeFault.TheVariants.{BadHeader, Truncated, BadSection, BadInteger, BadOpcode, Float, TooLarge, NoMemory}
 use Rattle.module_decoder.specs.declared.basics.Span.{Span}
-use Rattle.wasm_types.specs.Leb128.{u32_at, s32_at, s64_at}
+use Rattle.wasm_types.specs.Leb128Texts.{u32_at, s32_at, s64_at}
 
 infixl 10 ◌>>=◌
 abbrev pub ◌>>=◌ : {A B : Type 0} → Result A DecodeFault → (A → Result B DecodeFault) → Result B DecodeFault

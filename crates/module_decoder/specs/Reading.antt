@@ -14,8 +14,8 @@ use Rattle.wasm_types.specs.declared.module.SectionId.TheVariants as section
 use Rattle.wasm_types.specs.declared.opcodes.Lead.{Lead}
 use Rattle.wasm_types.specs.declared.opcodes.Lead.TheVariants as lead
 use Rattle.wasm_types.specs.Syntax.{Instruction, Plain, BrTable, Block, Loop, If, Instructions, Done, Then, Signature, ImportForm, GlobalForm, ExportForm, ElemForm, DataForm, ModuleForm}
-use Rattle.wasm_types.specs.Opcodes.{lead_at, indexed}
-use Rattle.wasm_types.specs.Leb128.{u32_at}
+use Rattle.wasm_types.specs.Leads.{lead_at, indexed}
+use Rattle.wasm_types.specs.Leb128Texts.{u32_at}
 use Rattle.wasm_types.specs.ModuleGrammar.{CodeForm, Parts, no_parts, number, module_of, header}
 use Rattle.wasm_types.specs.Profile.{most_elements, most_locals, most_module_bytes, most_nesting, most_pages}
 use Rattle.module_decoder.specs.declared.fault.DecodeFault.{DecodeFault}

@@ -2,7 +2,8 @@
 use Rattle.std.proofs.Common.{◌≡◌, ℕ, ◌+◌, ◌^◌, ◌<◌, ◌≤◌, Bool, true, false, cond, ltb, List, [], ◌∷◌, ◌++◌, length, Option, Some, None, inl, inr, refl, sym, ap, subst, ◌∙◌, append_assoc, arith, length-append}
 use Rattle.std.proofs.lemmas.Bool.{ltb-true, ltb-false}
 use Rattle.std.proofs.lemmas.List.{append-nil}
-use Rattle.wasm_types.specs.Leb128.{and_then, IsU32, IsS32, IsS64, u32_text, s32_text, s64_text}
+use Rattle.wasm_types.specs.Leb128.{IsU32, IsS32, IsS64}
+use Rattle.wasm_types.specs.Leb128Texts.{and_then, u32_text, s32_text, s64_text}
 use Rattle.wasm_types.specs.Instructions.{Each, IsVec, Tagged, IsIndex}
 use Rattle.wasm_types.specs.ModuleGrammar.{IsBytes, IsOption}
 use Rattle.wasm_types.proofs.Groups.{u32_written, s32_written, s64_written, u32_least, s32_least, s64_least}

@@ -5,7 +5,8 @@ use Rattle.std.proofs.lemmas.Str.{IsUtf8-from_ascii}
 use Rattle.std.specs.Str.{IsAscii}
 use Rattle.std.specs.Prelude.{zero, suc}
 use Rattle.wasm_types.specs.Syntax.{ModuleForm}
-use Rattle.wasm_types.specs.Leb128.{IsU32, u32_text}
+use Rattle.wasm_types.specs.Leb128.{IsU32}
+use Rattle.wasm_types.specs.Leb128Texts.{u32_text}
 use Rattle.wasm_types.specs.ModuleGrammar.{AreSections, Custom, Give, IsCustom, IsModule, IsSection, Known, Parts, Section, header, no_parts, number}
 use Rattle.wasm_types.specs.Profile.{most_module_bytes}
 use Rattle.wasm_types.proofs.Groups.{u32_written}

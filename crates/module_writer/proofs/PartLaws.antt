@@ -8,7 +8,7 @@ use Rattle.wasm_types.specs.declared.types.Limits.{Limits}
 use Rattle.wasm_types.specs.declared.module.ExportDesc.{ExportDesc}
 use Rattle.wasm_types.specs.declared.module.ExportDesc.TheVariants as export
 use Rattle.wasm_types.specs.Syntax.{Signature, ImportForm, FuncForm, GlobalForm, ExportForm, ElemForm, DataForm}
-use Rattle.wasm_types.specs.Leb128.{and_then}
+use Rattle.wasm_types.specs.Leb128Texts.{and_then}
 use Rattle.wasm_types.specs.Instructions.{Each, IsVec, Tagged, IsIndex, val_code, IsValType, IsExpr}
 use Rattle.wasm_types.specs.ModuleGrammar.{IsBytes, IsName, IsOption, IsFuncType, IsImport, limits_text, IsLimits, IsTable, IsMemory, mut_code, IsGlobal, IsExportDesc, IsExport, IsElem, IsData, IsLocals, CodeForm, IsCode}
 use Rattle.module_writer.specs.Writers.{Written, byte_to, index_to, vec_to, option_to, tagged_to, bytes_to, name_to}

@@ -4,7 +4,7 @@ use Rattle.std.proofs.lemmas.Bool.{leb-true, leb-false}
 use Rattle.std.proofs.lemmas.List.{length-replicate}
 use Rattle.wasm_types.specs.declared.types.ValType.{ValType}
 use Rattle.wasm_types.specs.declared.types.ValType.TheVariants.{I32, I64}
-use Rattle.wasm_types.specs.Leb128.{u32_text}
+use Rattle.wasm_types.specs.Leb128Texts.{u32_text}
 use Rattle.wasm_types.specs.Instructions.{Both, Each, IsVec, IsIndex, val_code, IsValType}
 use Rattle.wasm_types.specs.ModuleGrammar.{expanded, IsLocals}
 use Rattle.wasm_types.proofs.Groups.{u32_written, u32_least}

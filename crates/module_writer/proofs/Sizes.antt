@@ -1,7 +1,8 @@
 -- How many bytes unsigned integers take.
 use Rattle.std.proofs.Common.{◌≡◌, ℕ, zero, suc, ◌+◌, ◌*◌, ◌/◌, ◌%◌, ◌<◌, ◌≤◌, Bool, true, false, cond, ltb, List, [], ◌∷◌, length, inl, inr, refl, arith}
 use Rattle.std.proofs.lemmas.Bool.{lt-ltb, le-ltb, ltb-false, cases_lt}
-use Rattle.wasm_types.specs.Leb128.{IsRaw, unsigned_text, u32_text, IsU32}
+use Rattle.wasm_types.specs.Leb128.{IsRaw, IsU32}
+use Rattle.wasm_types.specs.Leb128Texts.{unsigned_text, u32_text}
 
 unsigned_below : (k : ℕ) (other : List ℕ) (m n w : ℕ) → m ≤ n → IsRaw other n w → length (unsigned_text k m) ≤ length other
 unsigned_below k [] m n w le h = absurd h

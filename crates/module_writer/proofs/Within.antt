@@ -14,7 +14,7 @@ use Rattle.wasm_types.specs.declared.module.SectionId.TheVariants as section
 use Rattle.wasm_types.specs.Syntax.{Instruction, Plain, BrTable, Block, Loop, If, Instructions, Done, Then, Signature, ImportForm, FuncForm, GlobalForm, ExportForm, ElemForm, DataForm, ModuleForm}
 use Rattle.wasm_types.specs.Opcodes.{Immediates, Nothing, Index, Memory, Bits32, Bits64, IndexReserved, Reserved, immediates, opcode}
 use Rattle.wasm_types.specs.Instructions.{block_code, depth, depths, val_code}
-use Rattle.wasm_types.specs.Leb128.{and_then, s32_text, s64_text, u32_text}
+use Rattle.wasm_types.specs.Leb128Texts.{and_then, s32_text, s64_text, u32_text}
 use Rattle.wasm_types.specs.ModuleGrammar.{IsModule, header, mut_code, number}
 use Rattle.module_writer.specs.Writers.{Written, bits32_to, bits64_to, both_to, byte_to, bytes_to, each_to, index_to, name_to, option_to, sized_to, tagged_to, vec_to}
 use Rattle.module_writer.specs.Writing.{code_parts_to, code_to, data_to, elem_to, else_to, export_desc_to, export_to, expr_to, fit, from_codes_to, from_data_to, from_elems_to, from_exports_to, from_functions_to, from_globals_to, from_imports_to, from_memory_to, from_start_to, from_table_to, from_types_to, func_type_to, global_to, immediates_to, import_to, instr_to, instrs_to, is_same, limits_by, limits_to, locals_to, module_to, opened_to, runs_from, runs_of, section_to, start_to, table_type_to, type_index_to, val_type_to, vec_section_to, within_to}

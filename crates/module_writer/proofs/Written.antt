@@ -6,7 +6,7 @@ use Rattle.std.specs.declared.alloc.Global.{Global}
 use Rattle.std.proofs.lemmas.Bool.{leb-true, leb-false}
 use Rattle.std.proofs.lemmas.List.{length-map}
 use Rattle.wasm_types.specs.Syntax.{FuncForm, ModuleForm}
-use Rattle.wasm_types.specs.Leb128.{and_then}
+use Rattle.wasm_types.specs.Leb128Texts.{and_then}
 use Rattle.wasm_types.specs.ModuleGrammar.{CodeForm, Parts, joined, module_of, header, IsModule}
 use Rattle.module_writer.specs.declared.fault.WriteFault.{WriteFault}
 use Rattle.module_writer.specs.declared.fault.WriteFault.TheVariants.{TooLarge, NoMemory}

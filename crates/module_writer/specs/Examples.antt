@@ -1,7 +1,7 @@
 -- Sizes of small modules, computed.
 use Rattle.std.specs.Prelude.{◌≡◌, [], ◌∷◌, None, refl}
 use Rattle.wasm_types.specs.declared.instr.Simple.TheVariants.{I32Const, LocalGet}
-use Rattle.wasm_types.specs.Leb128.{s32_text, u32_text}
+use Rattle.wasm_types.specs.Leb128Texts.{s32_text, u32_text}
 use Rattle.wasm_types.specs.Syntax.{Done, FuncForm, If, ModuleForm, Plain, Signature, Then}
 use Rattle.module_writer.specs.Size.{index_size, instrs_size, module_size}
 

@@ -1,6 +1,6 @@
 -- The custom section `name`, by which engines and tools name the functions of a module (Core 1.0, section 7.4.1). Only its subsection of functions is written.
 use Rattle.std.specs.Prelude.{ℕ, suc, List, [], ◌∷◌, ◌++◌, length}
-use Rattle.wasm_types.specs.Leb128.{u32_text}
+use Rattle.wasm_types.specs.Leb128Texts.{u32_text}
 
 -- bytes with their number before them
 abbrev pub counted : List ℕ → List ℕ

@@ -5,7 +5,7 @@ use Rattle.std.specs.declared.vec.Vec.{Vec}
 use Rattle.std.specs.declared.alloc.Global.{Global}
 use Rattle.module_writer.specs.declared.fault.WriteFault.{WriteFault}
 use Rattle.module_writer.specs.declared.fault.WriteFault.TheVariants.{TooLarge, NoMemory}
-use Rattle.wasm_types.specs.Leb128.{and_then, u32_text, s32_text, s64_text}
+use Rattle.wasm_types.specs.Leb128Texts.{and_then, u32_text, s32_text, s64_text}
 use Rattle.wasm_types.specs.Profile.{most_module_bytes}
 
 -- all bytes then; None where a limit is passed

@@ -2,7 +2,7 @@
 
 ghost use Rattle.std.specs.Prelude.{◌≡◌};
 ghost use Rattle.wasm_types.specs.Opcodes.{immediates};
-ghost use Rattle.wasm_types.specs.Leb128.{and_then};
+ghost use Rattle.wasm_types.specs.Leb128Texts.{and_then};
 ghost use Rattle.wasm_types.specs.View.{view, views};
 ghost use Rattle.module_writer.specs.Outputs.{Adds};
 ghost use Rattle.module_writer.specs.Writing.{immediates_to, simple_to, table_to, opened_to, within_to, else_to, instr_to, instrs_to, expr_to};

@@ -2,6 +2,7 @@ pub mod CompileFaults
 pub mod EndTexts
 pub mod Parts
 pub mod Topics
+pub mod Explanations
 pub mod Examples
 pub mod TopicExamples
 pub mod SubjectTexts

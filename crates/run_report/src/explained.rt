@@ -1,4 +1,6 @@
 //! What the name of a fault, a refusal, a trap, an end or a status means, and what to do.
+ghost use Rattle.std.specs.Prelude.{◌≡◌};
+ghost use Rattle.run_report.specs.Explanations.{explanation, form_of};
 ghost use Rattle.run_report.specs.Topics.{Shows};
 
 mod ends;
@@ -33,7 +35,8 @@ pub struct Explanation {
 
 /// What is said of a topic. What its command shows is the line that tells the topic, with whatever that line goes on to say; of a status the number.
 pub fn explain(topic: Topic) -> Explanation
-    ensures { Shows topic result.shown.now }
+    ensures said { form_of result ≡ explanation topic }
+    ensures shown { Shows topic result.shown.now }
 {
     match topic {
         Topic::Fault(fault) => fault_explanation(fault),

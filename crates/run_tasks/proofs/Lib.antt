@@ -6,3 +6,6 @@ mod Silent
 mod Unlisting
 mod Equals
 mod Moved
+mod Unknown
+mod Inside
+mod Outlets

@@ -5,4 +5,5 @@ pub mod Jobs
 pub mod Examples
 pub mod Tasks
 pub mod Runs
+pub mod Outlets
 pub mod ModuleWhereTexts

@@ -1,6 +1,6 @@
 -- What a task runs, and what is told of a script that is not compiled.
 use Rattle.std.specs.Prelude.{ℕ, List, Option, IfSome}
-use Rattle.world_core.specs.WorldState.{State}
+use Rattle.world_core.specs.WorldState.{Action, State}
 use Rattle.command_line.specs.declared.Task.{Task}
 use Rattle.awk_run.specs.Counted.{IsCountedIn}
 use Rattle.awk_run.specs.ModuleRun.{Answers}
@@ -22,20 +22,30 @@ use Rattle.script_lines.specs.Lined.{IsNotLined}
 abbrev pub Told : Type 0
 Told = ⊥ × ⊥
 
--- The task's script is run, in the job of the task with this environment, over real files behind the task's fence, and this is answered.
-pub record RunsScript (task : Task) (environment : List (List ℕ × List ℕ)) (e : RunEnd) : Type 0 where
-  pub after : State
-  pub answers : ScriptAnswers Told task.subject.now (job_of_task task environment) task.steps (files_of_task task) e after
+-- nothing is known of what was given to real files
+abbrev pub Anything : List Action → Type 0
+Anything output = Unit {0}
 
--- A script of these bytes is run so.
-pub record RunsText (task : Task) (script : List ℕ) (environment : List (List ℕ × List ℕ)) (e : RunEnd) : Type 0 where
+-- A script of these bytes is run, in the job of the task with this environment, over real files behind the task's fence, and this is answered, with an output
+-- that was given so.
+pub record GivesText (given : List Action → Type 0) (task : Task) (script : List ℕ) (environment : List (List ℕ × List ℕ)) (e : RunEnd) : Type 0 where
   pub after : State
-  pub answers : ScriptAnswers Told script (job_of_task task environment) task.steps (files_of_task task) e after
+  pub answers : ScriptAnswers Told given script (job_of_task task environment) task.steps (files_of_task task) e after
 
 -- The module of these bytes is run so.
-pub record RunsModule (task : Task) (bytes : List ℕ) (environment : List (List ℕ × List ℕ)) (e : RunEnd) : Type 0 where
+pub record GivesModule (given : List Action → Type 0) (task : Task) (bytes : List ℕ) (environment : List (List ℕ × List ℕ)) (e : RunEnd) : Type 0 where
   pub after : State
-  pub answers : Answers Told bytes (job_of_task task environment) task.steps (files_of_task task) e after
+  pub answers : Answers Told given bytes (job_of_task task environment) task.steps (files_of_task task) e after
+
+-- the same, where nothing is told of what was given
+abbrev pub RunsText : Task → List ℕ → List (List ℕ × List ℕ) → RunEnd → Type 0
+RunsText = GivesText Anything
+
+abbrev pub RunsScript : Task → List (List ℕ × List ℕ) → RunEnd → Type 0
+RunsScript task = RunsText task task.subject.now
+
+abbrev pub RunsModule : Task → List ℕ → List (List ℕ × List ℕ) → RunEnd → Type 0
+RunsModule = GivesModule Anything
 
 -- what is told of where the task's script was in such a run, if anything is
 abbrev pub SeesScript : Task → List (List ℕ × List ℕ) → Option Whereabouts → Type 0

@@ -1,10 +1,13 @@
 //! Scripts of tasks, run and counted.
 ghost use Rattle.std.specs.Prelude.{◌≡◌, map, IfSome};
 ghost use Rattle.awk_run.specs.Counted.{IsCountedIn};
+ghost use Rattle.awk_run.specs.ModuleRun.{IsGiven};
 ghost use Rattle.awk_run.specs.ScriptRuns.{ScriptAnswers};
-ghost use Rattle.host_names.specs.Forms.{pair_of};
+ghost use Rattle.host_texts.specs.NameForms.{pair_of};
 ghost use Rattle.run_tasks.specs.Jobs.{fence_of_task, job_of_task};
-ghost use Rattle.run_tasks.specs.Runs.{CountsText, RunsText};
+ghost use Rattle.run_tasks.specs.Outlets.{IsGivenOut};
+ghost use Rattle.run_tasks.specs.Runs.{CountsText, GivesText, RunsText};
+ghost use Rattle.world_core.specs.Traces.{IsHandedOn};
 ghost use Rattle.world_os.specs.Behind.{behind};
 ghost use Rattle.world_os.specs.Fences.{form_of, lets_read};
 
@@ -13,7 +16,7 @@ use crate::job::job_on;
 use crate::sandbox::Surroundings;
 use awk_run::{RunCounts, count_script};
 use command_line::Task;
-use host_names::NamedText;
+use host_texts::NamedText;
 use run_report::RunEnd;
 use std::alloc::Global;
 use std::hash::RandomState;
@@ -32,7 +35,8 @@ fn counted_behind<'a, W: World>(
     world: FencedWorld<W, FileFence<'a>>,
 ) -> (RunEnd, Option<RunCounts>, FencedWorld<W, FileFence<'a>>)
     requires { form_of world.fence ≡ fence_of_task task.now }
-    ensures answers { ScriptAnswers (W.is_modelled × ⊥) script.now
+    ensures answers { ScriptAnswers (W.is_modelled × ⊥)
+        (IsGiven (IsHandedOn W.did) world.entry.inner result.2.inner) script.now
         (job_of_task task.now (map pair_of environment.items)) task.now.steps
         (behind (lets_read (fence_of_task task.now)) (W.state world.entry.inner)) result.0
         (behind (lets_read (form_of result.2.fence)) (W.state result.2.inner)) }
@@ -56,6 +60,9 @@ pub fn script_counted<R: Files, I: Read + Drop, O: Write + Drop, E: Write + Drop
 ) -> (RunEnd, Option<RunCounts>)
     ensures answers { RunsText task.now script.now (map pair_of around.entry.environment.items)
         result.0 }
+    ensures gave { GivesText (IsGivenOut R.File.contents task.now.streams
+        (O.contents around.entry.output) (E.contents around.entry.errors)) task.now script.now
+        (map pair_of around.entry.environment.items) result.0 }
     ensures counted { CountsText task.now script.now (map pair_of around.entry.environment.items)
         result.1 }
 {

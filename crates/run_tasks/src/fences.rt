@@ -43,6 +43,8 @@ fn limited_world<'a, R: Files, I: Read + Drop, O: Write + Drop, E: Write + Drop>
     ensures streams { result.inner.streams.items ≡ [] }
     ensures count { result.inner.failures ≡ 0 }
     ensures named { result.inner.named ≡ own.named }
+    ensures output { result.inner.output ≡ own.output }
+    ensures errors { result.inner.errors ≡ own.errors }
     ensures limits { StartsWith task.now.limits.most_output task.now.limits.most_input result }
 {
     let files = OsWorld::new(alloc, files, own);
@@ -66,6 +68,8 @@ pub(crate) fn os_world_of<'a, R: Files, I: Read + Drop, O: Write + Drop, E: Writ
     ensures streams { IfOk result (λ world. world.inner.inner.streams.items ≡ []) }
     ensures count { IfOk result (λ world. world.inner.inner.failures ≡ 0) }
     ensures named { IfOk result (λ world. world.inner.inner.named ≡ task.now.streams) }
+    ensures output { IfOk result (λ world. world.inner.inner.output ≡ own.1) }
+    ensures errors { IfOk result (λ world. world.inner.inner.errors ≡ own.2) }
     ensures limits { IfOk result (λ world. StartsWith task.now.limits.most_output
         task.now.limits.most_input world.inner) }
 {

@@ -2,13 +2,13 @@
 ghost use Rattle.std.specs.Prelude.{◌≡◌, ◌++◌, IfOk, OnOk, map};
 ghost use Rattle.run_tasks.specs.Jobs.{assignment, job_of_task, separator};
 ghost use Rattle.command_line.specs.Request.{texts};
-ghost use Rattle.host_names.specs.Forms.{pair_of};
+ghost use Rattle.host_texts.specs.NameForms.{pair_of};
 ghost use Rattle.host_tables.specs.Starts.{job_of};
 
 use awk_values::Bytes;
 use command_line::Task;
-use host_names::NamedText;
 use host_tables::Job;
+use host_texts::NamedText;
 use std::alloc::{AllocError, Global};
 
 /// The words, as operands.

@@ -1,10 +1,12 @@
 //! What a task of a module runs, and where the module was.
 ghost use Rattle.std.specs.Prelude.{◌≡◌, map, IfSome};
-ghost use Rattle.awk_run.specs.ModuleRun.{Answers};
+ghost use Rattle.awk_run.specs.ModuleRun.{Answers, IsGiven};
 ghost use Rattle.awk_run.specs.ModuleSeen.{IsModuleSeenIn};
-ghost use Rattle.host_names.specs.Forms.{pair_of};
+ghost use Rattle.host_texts.specs.NameForms.{pair_of};
 ghost use Rattle.run_tasks.specs.Jobs.{fence_of_task, job_of_task};
-ghost use Rattle.run_tasks.specs.Runs.{RunsModule, SeesModule};
+ghost use Rattle.run_tasks.specs.Outlets.{IsGivenOut};
+ghost use Rattle.run_tasks.specs.Runs.{GivesModule, RunsModule, SeesModule};
+ghost use Rattle.world_core.specs.Traces.{IsHandedOn};
 ghost use Rattle.world_os.specs.Behind.{behind};
 ghost use Rattle.world_os.specs.Fences.{form_of, lets_read};
 
@@ -13,7 +15,7 @@ use crate::job::job_on;
 use crate::sandbox::Surroundings;
 use awk_run::{ModuleWhereabouts, RunEnd, run_module_where};
 use command_line::Task;
-use host_names::NamedText;
+use host_texts::NamedText;
 use std::alloc::Global;
 use std::hash::RandomState;
 use std::io::{Read, Write};
@@ -35,7 +37,8 @@ fn module_seen_behind<'a, W: World>(
     FencedWorld<W, FileFence<'a>>,
 )
     requires { form_of world.fence ≡ fence_of_task task.now }
-    ensures answers { Answers (W.is_modelled × ⊥) bytes.now
+    ensures answers { Answers (W.is_modelled × ⊥)
+        (IsGiven (IsHandedOn W.did) world.entry.inner result.2.inner) bytes.now
         (job_of_task task.now (map pair_of environment.items)) task.now.steps
         (behind (lets_read (fence_of_task task.now)) (W.state world.entry.inner)) result.0
         (behind (lets_read (form_of result.2.fence)) (W.state result.2.inner)) }
@@ -58,6 +61,9 @@ pub fn module_seen<R: Files, I: Read + Drop, O: Write + Drop, E: Write + Drop>(
 ) -> (RunEnd, Option<ModuleWhereabouts>)
     ensures answers { RunsModule task.now bytes.now (map pair_of around.entry.environment.items)
         result.0 }
+    ensures gave { GivesModule (IsGivenOut R.File.contents task.now.streams
+        (O.contents around.entry.output) (E.contents around.entry.errors)) task.now bytes.now
+        (map pair_of around.entry.environment.items) result.0 }
     ensures seen { SeesModule task.now bytes.now (map pair_of around.entry.environment.items)
         result.1 }
 {

@@ -1,12 +1,14 @@
 //! What a task runs: its script or a module, over real files, behind its fence.
 ghost use Rattle.std.specs.Prelude.{◌≡◌, map, IfErr, IfOk, IfSome};
-ghost use Rattle.awk_run.specs.ModuleRun.{Answers};
+ghost use Rattle.awk_run.specs.ModuleRun.{Answers, IsGiven};
 ghost use Rattle.awk_run.specs.ScriptRuns.{ScriptAnswers};
 ghost use Rattle.awk_run.specs.Seen.{IsSeenIn};
-ghost use Rattle.host_names.specs.Forms.{pair_of};
+ghost use Rattle.host_texts.specs.NameForms.{pair_of};
 ghost use Rattle.run_tasks.specs.Jobs.{fence_of_task, job_of_task};
-ghost use Rattle.run_tasks.specs.Runs.{IsUncompiled, RunsModule, RunsScript, SeesScript};
+ghost use Rattle.run_tasks.specs.Outlets.{IsGivenOut};
+ghost use Rattle.run_tasks.specs.Runs.{GivesModule, GivesText, IsUncompiled, RunsModule, RunsScript, SeesScript};
 ghost use Rattle.script_compiler.specs.Compiled.{IsCompiled};
+ghost use Rattle.world_core.specs.Traces.{IsHandedOn};
 ghost use Rattle.world_os.specs.Behind.{behind};
 ghost use Rattle.world_os.specs.Fences.{form_of, lets_read};
 
@@ -14,7 +16,7 @@ use crate::fences::os_world_of;
 use crate::job::job_on;
 use awk_run::{CompileFault, Whereabouts, compile, run_module, run_script, run_script_where};
 use command_line::Task;
-use host_names::NamedText;
+use host_texts::NamedText;
 use run_report::{Refusal, RunEnd};
 use std::alloc::Global;
 use std::hash::RandomState;
@@ -49,7 +51,8 @@ fn script_behind<'a, W: World>(
     world: FencedWorld<W, FileFence<'a>>,
 ) -> (RunEnd, FencedWorld<W, FileFence<'a>>)
     requires { form_of world.fence ≡ fence_of_task task.now }
-    ensures { ScriptAnswers (W.is_modelled × ⊥) task.now.subject.now
+    ensures { ScriptAnswers (W.is_modelled × ⊥)
+        (IsGiven (IsHandedOn W.did) world.entry.inner result.1.inner) task.now.subject.now
         (job_of_task task.now (map pair_of environment.items)) task.now.steps
         (behind (lets_read (fence_of_task task.now)) (W.state world.entry.inner)) result.0
         (behind (lets_read (form_of result.1.fence)) (W.state result.1.inner)) }
@@ -70,7 +73,8 @@ fn script_seen_behind<'a, W: World>(
     world: FencedWorld<W, FileFence<'a>>,
 ) -> (RunEnd, Option<Whereabouts>, FencedWorld<W, FileFence<'a>>)
     requires { form_of world.fence ≡ fence_of_task task.now }
-    ensures answers { ScriptAnswers (W.is_modelled × ⊥) task.now.subject.now
+    ensures answers { ScriptAnswers (W.is_modelled × ⊥)
+        (IsGiven (IsHandedOn W.did) world.entry.inner result.2.inner) task.now.subject.now
         (job_of_task task.now (map pair_of environment.items)) task.now.steps
         (behind (lets_read (fence_of_task task.now)) (W.state world.entry.inner)) result.0
         (behind (lets_read (form_of result.2.fence)) (W.state result.2.inner)) }
@@ -95,7 +99,8 @@ fn module_behind<'a, W: World>(
     world: FencedWorld<W, FileFence<'a>>,
 ) -> (RunEnd, FencedWorld<W, FileFence<'a>>)
     requires { form_of world.fence ≡ fence_of_task task.now }
-    ensures { Answers (W.is_modelled × ⊥) bytes.now
+    ensures { Answers (W.is_modelled × ⊥)
+        (IsGiven (IsHandedOn W.did) world.entry.inner result.1.inner) bytes.now
         (job_of_task task.now (map pair_of environment.items)) task.now.steps
         (behind (lets_read (fence_of_task task.now)) (W.state world.entry.inner)) result.0
         (behind (lets_read (form_of result.1.fence)) (W.state result.1.inner)) }
@@ -112,7 +117,10 @@ pub fn script_end<R: Files, I: Read + Drop, O: Write + Drop, E: Write + Drop>(
     task: &Task<'_>,
     around: Surroundings<'_, R, I, O, E>,
 ) -> RunEnd
-    ensures { RunsScript task.now (map pair_of around.entry.environment.items) result }
+    ensures answers { RunsScript task.now (map pair_of around.entry.environment.items) result }
+    ensures gave { GivesText (IsGivenOut R.File.contents task.now.streams
+        (O.contents around.entry.output) (E.contents around.entry.errors)) task.now
+        task.now.subject.now (map pair_of around.entry.environment.items) result }
 {
     let streams = (around.input, around.output, around.errors);
     match os_world_of(alloc, around.files, streams, task) {
@@ -131,6 +139,9 @@ pub fn script_seen<R: Files, I: Read + Drop, O: Write + Drop, E: Write + Drop>(
     around: Surroundings<'_, R, I, O, E>,
 ) -> (RunEnd, Option<Whereabouts>)
     ensures answers { RunsScript task.now (map pair_of around.entry.environment.items) result.0 }
+    ensures gave { GivesText (IsGivenOut R.File.contents task.now.streams
+        (O.contents around.entry.output) (E.contents around.entry.errors)) task.now
+        task.now.subject.now (map pair_of around.entry.environment.items) result.0 }
     ensures seen { SeesScript task.now (map pair_of around.entry.environment.items) result.1 }
 {
     let streams = (around.input, around.output, around.errors);
@@ -156,7 +167,11 @@ pub fn module_end<R: Files, I: Read + Drop, O: Write + Drop, E: Write + Drop>(
     bytes: &[u8],
     around: Surroundings<'_, R, I, O, E>,
 ) -> RunEnd
-    ensures { RunsModule task.now bytes.now (map pair_of around.entry.environment.items) result }
+    ensures answers { RunsModule task.now bytes.now (map pair_of around.entry.environment.items)
+        result }
+    ensures gave { GivesModule (IsGivenOut R.File.contents task.now.streams
+        (O.contents around.entry.output) (E.contents around.entry.errors)) task.now bytes.now
+        (map pair_of around.entry.environment.items) result }
 {
     let streams = (around.input, around.output, around.errors);
     match os_world_of(alloc, around.files, streams, task) {

@@ -40,8 +40,8 @@ fn push_unlined(text: &mut Vec<u8>, function: Option<usize>) -> Result<(), Alloc
     }
 }
 
-/// Whether of such an end it is told where the module was: not where it ended by itself, and not where it did not begin.
-fn is_told(end: &RunEnd) -> bool
+/// Whether of a run that ended so it is told where its script or module was: not where it ended by itself, and not where it did not begin.
+pub fn is_told(end: &RunEnd) -> bool
     ensures { result ≡ is_told end.now }
 {
     !matches!(end, RunEnd::Ended(_) | RunEnd::Refused(_))

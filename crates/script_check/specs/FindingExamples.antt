@@ -1,8 +1,7 @@
 -- What is found in scripts, computed from the definitions.
 use Rattle.std.specs.Prelude.{◌≡◌, ℕ, true, false, List, [], ◌∷◌, Option, None, Some, codes, refl}
-use Rattle.awk_grammar.specs.Item.{Item, Function}
+use Rattle.awk_grammar.specs.Trees.{Item, Function, NoStmt}
 use Rattle.awk_grammar.specs.Kinds.{special_arrays, special_scalars}
-use Rattle.awk_grammar.specs.Stmt.{NoStmt}
 use Rattle.awk_tokens.specs.declared.token.Punctuator.TheVariants.{OpenBrace, OpenParen, CloseBrace, Semicolon, Plus}
 use Rattle.awk_tokens.specs.declared.token.Token.{Token}
 use Rattle.awk_tokens.specs.declared.token.TokenFault.TheVariants.{BadByte, OpenString}

@@ -1,6 +1,6 @@
 -- All that is found in a script.
 use Rattle.std.specs.Prelude.{◌≡◌, ◌≢◌, ℕ, ◌+◌, Bool, true, false, not, ◌&&◌, ◌||◌, if◌then◌else◌, List, [], ◌∷◌, ◌++◌, length, map, Option, Some, None, Ok, Err, codes, slice_get}
-use Rattle.awk_grammar.specs.Item.{Item}
+use Rattle.awk_grammar.specs.Trees.{Item}
 use Rattle.awk_grammar.specs.Kinds.{Name, Refusal, refusal, resolved, same_name}
 use Rattle.awk_parse.specs.Parsing.{IsParsed, IsRefused}
 use Rattle.awk_parse.specs.declared.fault.ParseFault.{ParseFault}

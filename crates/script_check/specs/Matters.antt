@@ -2,7 +2,7 @@
 use Rattle.std.specs.Prelude.{ℕ, zero, suc, Bool, true, false, not, ◌&&◌, ◌||◌, if◌then◌else◌, Option, Some, None, List, [], ◌∷◌, ◌++◌, take, length, slice_get}
 use Rattle.std.specs.List.{list_any}
 use Rattle.std.specs.Option.{option_map, is_some}
-use Rattle.awk_grammar.specs.Item.{Item}
+use Rattle.awk_grammar.specs.Trees.{Item}
 use Rattle.awk_grammar.specs.Kinds.{Name, heads, has_name, parameters_of, same_name, takes_fewer}
 use Rattle.script_check.specs.declared.uses.Deed.{Deed}
 use Rattle.script_check.specs.declared.uses.Deed.TheVariants.{Defines, Takes, Calls, Reads, Sets, Changes, Joins, Gives, ReadsArray, SetsArray, ChangesArray, Clears, Assigns, Divides}

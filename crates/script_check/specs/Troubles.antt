@@ -1,6 +1,6 @@
 -- What is found in a script that is refused for its names: the uses that the refusal means.
 use Rattle.std.specs.Prelude.{ℕ, ◌+◌, Bool, true, false, not, ◌&&◌, ◌||◌, if◌then◌else◌, List, [], ◌∷◌, ◌++◌, Option, Some, None, is_some, option_to_list, slice_get}
-use Rattle.awk_grammar.specs.Item.{Item}
+use Rattle.awk_grammar.specs.Trees.{Item}
 use Rattle.awk_grammar.specs.Kinds.{Refusal, TooMany, DuplicateName, UnknownFunction, ArgCount, KindClash, has_name, heads, is_function, or_else, same_name, specials}
 use Rattle.script_check.specs.declared.matter.Trouble.{Trouble}
 use Rattle.script_check.specs.declared.matter.Trouble.TheVariants as trouble

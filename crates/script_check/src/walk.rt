@@ -3,7 +3,7 @@
 ghost use Rattle.std.specs.Prelude.{◌≡◌, ◌++◌, ◌∷◌, [], int_lt};
 ghost use Rattle.awk_text.specs.Number.{number_of_text};
 ghost use Rattle.awk_grammar.specs.Token.{Assign};
-ghost use Rattle.awk_grammar.specs.Tree.{Other, Call};
+ghost use Rattle.awk_grammar.specs.Trees.{Other, Call};
 ghost use Rattle.awk_grammar.specs.View.{view, views, view_assign, view_binary};
 ghost use Rattle.script_check.specs.Uses.{all_uses, assigned_way, at_assigning, at_op, does, element_deed, is_condition, is_uneven, leaves_rest, left_way, number_in, numbers_leave_rest, operand_uses, operand_way, scalar_deed, texts_leave_rest, uses};
 ghost use Rattle.script_check.specs.View.{AddsUses, view_place};

@@ -4,7 +4,7 @@ use Rattle.std.proofs.lemmas.Bool.{or_cases, or_parts, or_from, or_left, or_righ
 use Rattle.std.proofs.lemmas.List.Folds.{list_any-append}
 use Rattle.std.specs.Prelude.{if◌then◌else◌, map}
 use Rattle.std.specs.List.{list_any, filter}
-use Rattle.awk_grammar.specs.Item.{Item, Function as FunctionItem}
+use Rattle.awk_grammar.specs.Trees.{Item, Function as FunctionItem}
 use Rattle.awk_grammar.specs.Marks.{Mark, Defined, parameter_marks, stmts_marks, item_marks, script_marks}
 use Rattle.awk_grammar.specs.Kinds.{Key, Whole, Inside, Head, heads, same_name, has_name, specials, same_key, parameters_of, is_function, defined, declared, duplicate, first_duplicate, is_global}
 use Rattle.awk_resolve.proofs.Names.{same_sound, same_refl}

@@ -5,7 +5,7 @@ use Rattle.std.proofs.lemmas.List.Folds.{list_any-append}
 use Rattle.std.specs.Prelude.{if◌then◌else◌, map, slice_get}
 use Rattle.std.specs.List.{list_any, filter}
 use Rattle.std.specs.Option.{option_map}
-use Rattle.awk_grammar.specs.Stmt.{Stmts, NoStmt}
+use Rattle.awk_grammar.specs.Trees.{Stmts, NoStmt}
 use Rattle.awk_grammar.specs.Kinds.{Key, Whole, Inside, Head, same_name, has_name, specials, same_key, name_of, parameters_of, parameter_name, head_keys, parameter_keys, named as with_kind, functions_by, is_global}
 use Rattle.awk_resolve.proofs.Names.{same_sound, same_refl, key_sound, key_refl}
 use Rattle.sem_scripts.specs.Names.{Name, Function, next_place, place_in, function_in, kind_at}

@@ -5,7 +5,7 @@ use Rattle.sem_primitives.specs.declared.sorts.Sort.TheVariants as sort
 use Rattle.sem_primitives.specs.declared.table.Primitive.TheVariants as row
 use Rattle.awk_grammar.specs.Token as token
 use Rattle.awk_grammar.specs.Token.{Sign, Plus, Minus, Product, Times, Over as Divided, Modulo}
-use Rattle.awk_grammar.specs.Tree.{Tree, Var, Index}
+use Rattle.awk_grammar.specs.Trees.{Tree, Var, Index}
 use Rattle.mid_program.specs.declared.mid.Arithmetic.{Arithmetic}
 use Rattle.mid_program.specs.declared.mid.Arithmetic.TheVariants as inline
 use Rattle.mid_program.specs.declared.mid.Operation.{Operation}

@@ -5,8 +5,8 @@ use Rattle.std.specs.Prelude.{if◌then◌else◌, map, codes}
 use Rattle.std.specs.List.{list_all, list_any, filter}
 use Rattle.std.specs.Option.{option_map}
 use Rattle.sem_primitives.specs.declared.constants.Special.{Special}
-use Rattle.awk_grammar.specs.Stmt.{Stmts}
-use Rattle.awk_grammar.specs.Item.{Item, Begin, End, Always, When, Lone, Nothing, Function as FunctionItem, IsItem, IsScript}
+use Rattle.awk_grammar.specs.Trees.{Stmts, Item, Begin, End, Always, When, Lone, Nothing, Function as FunctionItem}
+use Rattle.awk_grammar.specs.Item.{IsItem, IsScript}
 use Rattle.awk_grammar.specs.Marks.{Kind, Array, Scalar, Mark, Defined, Parameter as ParameterMark, Used, Called, Computed, Given, pattern_marks, stmts_marks, parameter_marks, item_marks, script_marks}
 use Rattle.awk_grammar.specs.Kinds.{Key, Whole, Inside, Head, heads, same_name, has_name, special_arrays, special_scalars, specials, same_key, name_of, key_in, parameters_of, parameter_at, parameter_keys, is_function as is_defined, is_used_as, TooMany, DuplicateName, UnknownFunction, ArgCount, KindClash, or_else, first, too_many, first_duplicate, unknown, excess, needing, clash, name_refusal, refusal, variables, is_global}
 use Rattle.awk_resolve.proofs.Names.{special_is}

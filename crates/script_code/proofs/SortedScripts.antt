@@ -1,9 +1,8 @@
 -- The code of scripts is well sorted.
 use Rattle.std.proofs.Common.{◌≡◌, ℕ, ◌+◌, ◌≤◌, true, false, T, List, [], ◌∷◌, ◌++◌, refl, sym, ap, ap₂, subst, lt-ltb, arith}
 use Rattle.std.specs.Prelude.{is_some, nat_lt, map, Option, Some, None}
-use Rattle.awk_grammar.specs.Stmt.{Stmts}
-use Rattle.awk_grammar.specs.Item as item
-use Rattle.awk_grammar.specs.Item.{Item, Pattern}
+use Rattle.awk_grammar.specs.Trees.{Stmts, Item, Pattern}
+use Rattle.awk_grammar.specs.Trees as item
 use Rattle.awk_grammar.specs.Marks.{marks}
 use Rattle.sem_scripts.specs.Names.{Name, Function, Resolved, Scope}
 use Rattle.sem_scripts.specs.Items.{top, print_record, pattern_ranges, range_count}

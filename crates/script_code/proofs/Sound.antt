@@ -5,7 +5,8 @@ use Rattle.std.specs.Prelude.{IsTrue, Option}
 use Rattle.std.specs.List.{list_all}
 use Rattle.awk_tokens.specs.declared.reserved_words.Builtin.{Builtin}
 use Rattle.awk_tokens.specs.declared.reserved_words.Builtin.TheVariants.{Split}
-use Rattle.awk_grammar.specs.Tree.{Tree, Leaf, Length, Var, Index, Field, Group, Call, Apply, Unary, Pre, Post, Bin, Has, HasList, Cond, Get, GetInto, GetFrom, GetIntoFrom, Trees, NoTree, Then, IsSome, IsWellFormed, AreWellFormed, suits, within, second_is_var, count}
+use Rattle.awk_grammar.specs.Tree.{IsSome, IsWellFormed, AreWellFormed, suits, within, second_is_var}
+use Rattle.awk_grammar.specs.Trees.{count, Tree, Leaf, Length, Var, Index, Field, Group, Call, Apply, Unary, Pre, Post, Bin, Has, HasList, Cond, Get, GetInto, GetFrom, GetIntoFrom, Trees, NoTree, Then}
 use Rattle.awk_grammar.specs.Marks.{Array, Scalar, Mark, Used, Called, Computed, Given, fills, marks, all_marks, computed_marks, argument_marks, operand_marks}
 use Rattle.sem_scripts.specs.Names.{Name, Resolved, Scope, is_array, kind_at}
 use Rattle.mid_program.specs.Texts.{literal_texts, texts_in, all_texts}

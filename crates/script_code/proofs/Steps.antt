@@ -7,9 +7,10 @@ use Rattle.sem_primitives.specs.InTurn.{values_wanted}
 use Rattle.sem_primitives.specs.Table.{listed_answer}
 use Rattle.sem_primitives.specs.declared.constants.Destination.{Destination}
 use Rattle.sem_primitives.specs.declared.table.Primitive.TheVariants as row
-use Rattle.awk_grammar.specs.Tree.{Tree, Trees, NoTree, Then, IsWellFormed, count}
-use Rattle.awk_grammar.specs.Stmt as stmt
-use Rattle.awk_grammar.specs.Stmt.{Printing, Print, Printf, Args, NoArgs, Listed, Enclosed, Target, NoTarget, Written, Appended, Plain, Stmt, Stmts, NoStmt, And, IsArgs, IsTarget, IsPlain, IsMaybe, IsMaybePlain, IsStmt, AreStmts}
+use Rattle.awk_grammar.specs.Tree.{IsWellFormed}
+use Rattle.awk_grammar.specs.Trees.{count, Tree, Trees, NoTree, Then, Printing, Print, Printf, Args, NoArgs, Listed, Enclosed, Target, NoTarget, Written, Appended, Plain, Stmt, Stmts, NoStmt, And}
+use Rattle.awk_grammar.specs.Trees as stmt
+use Rattle.awk_grammar.specs.Stmt.{IsArgs, IsTarget, IsPlain, IsMaybe, IsMaybePlain, IsStmt, AreStmts}
 use Rattle.awk_grammar.specs.Marks.{Array, Scalar, Mark, Used, marks, all_marks, args_marks, target_marks, plain_marks, maybe_marks, maybe_plain_marks, stmt_marks, stmts_marks}
 use Rattle.mid_program.specs.declared.mid.Operation.TheVariants.{Host}
 use Rattle.sem_scripts.specs.Names.{Resolved, Scope, variable_of, array_of}

@@ -2,7 +2,7 @@
 use Rattle.std.specs.Prelude.{◌≡◌, ◌≤◌, ◌^◌, ℕ, List, Ok, None, length}
 use Rattle.awk_tokens.specs.Cutting.{IsTokens, Spelled}
 use Rattle.awk_parse.specs.Parsing.{IsParsed}
-use Rattle.awk_grammar.specs.Item.{Item}
+use Rattle.awk_grammar.specs.Trees.{Item}
 use Rattle.awk_grammar.specs.Kinds.{refusal}
 use Rattle.sem_scripts.specs.Kinds.{resolved}
 use Rattle.mid_program.specs.Mid.{Program}

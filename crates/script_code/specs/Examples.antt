@@ -2,9 +2,7 @@
 use Rattle.std.specs.Prelude.{◌≡◌, ℕ, Bool, true, false, codes, List, [], ◌∷◌, Some, None, refl}
 use Rattle.std.specs.List.{list_all}
 use Rattle.awk_grammar.specs.Token.{Number, Set, Assign}
-use Rattle.awk_grammar.specs.Tree.{Tree, Leaf, Var, Index, Call, Bin, Other, NoTree, Then}
-use Rattle.awk_grammar.specs.Stmt.{Eval, Simple, While, Jumping, Break, Leave, Return, Stmt, Stmts, NoStmt, And}
-use Rattle.awk_grammar.specs.Item.{Item, Function, Begin}
+use Rattle.awk_grammar.specs.Trees.{Tree, Leaf, Var, Index, Call, Bin, Other, NoTree, Then, Eval, Simple, While, Jumping, Break, Leave, Return, Stmt, Stmts, NoStmt, And, Item, Function, Begin}
 use Rattle.awk_grammar.specs.Marks.{script_marks}
 use Rattle.awk_grammar.specs.Kinds.{special_arrays, special_scalars}
 use Rattle.mid_program.specs.Sorted.{all_differ}

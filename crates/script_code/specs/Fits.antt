@@ -1,8 +1,9 @@
 -- Scripts whose names, calls, trees and jumps are as they should be: each name is what it is used as. The code of such a script is well sorted.
 use Rattle.std.specs.Prelude.{ℕ, zero, suc, Bool, true, false, not, ◌&&◌, ◌||◌, IsTrue, is_some, List, [], ◌∷◌, ◌++◌, map, Option, Some, None}
 use Rattle.std.specs.List.{list_all}
-use Rattle.awk_grammar.specs.Stmt.{Break, Continue, Return, Stmt, Block, If, IfElse, While, Do, For, ForIn, Jumping, Leave, Stmts, NoStmt, And, AreStmts}
-use Rattle.awk_grammar.specs.Item.{Pattern, Item, Begin, End, Always, When, Lone, Function as FunctionItem, Nothing, IsPattern}
+use Rattle.awk_grammar.specs.Stmt.{AreStmts}
+use Rattle.awk_grammar.specs.Trees.{Break, Continue, Return, Stmt, Block, If, IfElse, While, Do, For, ForIn, Jumping, Leave, Stmts, NoStmt, And, Pattern, Item, Begin, End, Always, When, Lone, Function as FunctionItem, Nothing}
+use Rattle.awk_grammar.specs.Item.{IsPattern}
 use Rattle.awk_grammar.specs.Marks.{Array, Scalar, Mark, Defined, Parameter as ParameterMark, Used, Called, Computed, Given, stmts_marks, pattern_marks}
 use Rattle.sem_scripts.specs.Names.{Name, Function, Resolved, Scope, Variable, Global, Parameter, Reserved, function_in, function_at, function_number, variable_of, kind_at, is_array}
 use Rattle.mid_program.specs.Sorted.{all_differ}

@@ -1,7 +1,7 @@
 -- Scripts whose jumps stand in their places.
 use Rattle.std.specs.Prelude.{Bool, true, false, List, IsTrue}
 use Rattle.std.specs.List.{list_all}
-use Rattle.awk_grammar.specs.Item.{Item, Function as FunctionItem, Begin, End, Always, When, Lone, Nothing}
+use Rattle.awk_grammar.specs.Trees.{Item, Function as FunctionItem, Begin, End, Always, When, Lone, Nothing}
 use Rattle.script_code.specs.Fits.{are_placed}
 
 abbrev pub item_placed : Item → Bool

@@ -1,7 +1,8 @@
 //! Laws of the code of scripts, each the contract of a function that does nothing.
 ghost use Rattle.std.specs.Prelude.{◌≡◌, List, None};
 ghost use Rattle.awk_tokens.specs.Cutting.{Spelled};
-ghost use Rattle.awk_grammar.specs.Item.{Item, IsScript};
+ghost use Rattle.awk_grammar.specs.Item.{IsScript};
+ghost use Rattle.awk_grammar.specs.Trees.{Item};
 ghost use Rattle.awk_parse.specs.Parsing.{IsParsed};
 ghost use Rattle.awk_grammar.specs.Kinds.{refusal};
 ghost use Rattle.sem_scripts.specs.Kinds.{resolved};

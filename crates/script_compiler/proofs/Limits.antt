@@ -3,7 +3,7 @@ use Rattle.std.proofs.Common.{◌≡◌, inl, inr, ℕ, zero, suc, ◌≤◌, Bo
 use Rattle.std.specs.List.{All, AllByRecursion as ByRecursion}
 use Rattle.std.proofs.lemmas.List.Elements.{All-from_recursion, recursion_from_All}
 use Rattle.awk_tokens.specs.Cutting.{Spelled}
-use Rattle.awk_grammar.specs.Item.{Item, Function, Begin, End, Always, When, Lone, Nothing}
+use Rattle.awk_grammar.specs.Trees.{Item, Function, Begin, End, Always, When, Lone, Nothing}
 use Rattle.sem_scripts.specs.Items.{reads_records, top}
 use Rattle.sem_scripts.specs.Kinds.{resolved}
 use Rattle.mid_program.specs.Mid.{Kind, NoStep, Program, Routine, Steps}

@@ -2,7 +2,7 @@
 use Rattle.std.proofs.Common.{◌≡◌, ℕ, List, Result, Ok, Err, sym, ap, ◌∙◌, subst}
 use Rattle.awk_tokens.specs.Cutting.{Spelled}
 use Rattle.awk_tokens.proofs.Whole.{one_outcome}
-use Rattle.awk_grammar.specs.Item.{Item}
+use Rattle.awk_grammar.specs.Trees.{Item}
 use Rattle.awk_grammar.proofs.ItemComplete.{one_script}
 use Rattle.sem_scripts.specs.Kinds.{resolved}
 use Rattle.mid_program.specs.Translation.{program_of}

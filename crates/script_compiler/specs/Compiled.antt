@@ -2,7 +2,7 @@
 use Rattle.std.specs.Prelude.{◌≡◌, ◌⊎◌, ◌≤◌, ℕ, List, Ok, Some, false, length, map, true}
 use Rattle.sem_primitives.specs.Jobs.{JobForm, Environment}
 use Rattle.awk_tokens.specs.Cutting.{IsTokens, Spelled}
-use Rattle.awk_grammar.specs.Item.{Item}
+use Rattle.awk_grammar.specs.Trees.{Item}
 use Rattle.world_core.specs.WorldState.{Source}
 use Rattle.sem_scripts.specs.Kinds.{resolved}
 use Rattle.mid_program.specs.Mid.{Program, Routine}

@@ -1,7 +1,7 @@
 //! Laws of the modules of scripts, each the contract of a function that does nothing.
 ghost use Rattle.std.specs.Prelude.{◌≡◌, ◌≤◌, ◌^◌, List, None, length};
 ghost use Rattle.awk_tokens.specs.Cutting.{Spelled};
-ghost use Rattle.awk_grammar.specs.Item.{Item};
+ghost use Rattle.awk_grammar.specs.Trees.{Item};
 ghost use Rattle.awk_parse.specs.Parsing.{IsParsed};
 ghost use Rattle.awk_grammar.specs.Kinds.{refusal};
 ghost use Rattle.sem_scripts.specs.Kinds.{resolved};

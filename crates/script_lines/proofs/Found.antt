@@ -2,7 +2,8 @@
 use Rattle.std.proofs.Common.{◌≡◌, ℕ, zero, suc, ◌+◌, ◌<◌, ◌≤◌, ◌^◌, Some, None, Option, List, [], ◌∷◌, ◌++◌, length, drop, refl, ap, ◌∙◌, subst, arith, append_assoc, length-append, le-leb, take_at, drop_at}
 use Rattle.std.proofs.lemmas.List.{append-nil}
 use Rattle.std.specs.List.{AllByRecursion, flat_map}
-use Rattle.wasm_types.specs.Leb128.{IsU32, u32_at, u32_text}
+use Rattle.wasm_types.specs.Leb128.{IsU32}
+use Rattle.wasm_types.specs.Leb128Texts.{u32_at, u32_text}
 use Rattle.wasm_types.specs.ModuleGrammar.{AreSections, Custom, IsModule, IsSection, Section, contents, header, section_id}
 use Rattle.wasm_types.specs.Profile.{most_module_bytes}
 use Rattle.wasm_types.specs.Syntax.{ModuleForm}

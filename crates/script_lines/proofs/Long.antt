@@ -1,7 +1,7 @@
 -- How long the section is: at least as long as what it tells.
 use Rattle.std.proofs.Common.{ℕ, ◌+◌, ◌<◌, ◌≤◌, ◌/◌, ◌%◌, Bool, true, false, cond, ltb, List, [], ◌∷◌, ◌++◌, length, flat_map, map, arith, length-append}
 use Rattle.std.proofs.lemmas.List.{length-map}
-use Rattle.wasm_types.specs.Leb128.{u32_text, unsigned_text}
+use Rattle.wasm_types.specs.Leb128Texts.{u32_text, unsigned_text}
 use Rattle.module_writer.specs.Names.{counted}
 use Rattle.script_lines.specs.Lines.{FunctionForm, form_of, function_text, lines_contents, own_name, table_text}
 use Rattle.script_lines.specs.declared.module_table.FunctionLines.{FunctionLines}

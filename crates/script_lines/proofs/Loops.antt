@@ -1,7 +1,7 @@
 -- Items that are read in a loop.
 use Rattle.std.proofs.Common.{◌≡◌, ℕ, suc, ◌+◌, ◌-◌, ◌<◌, ◌≤◌, Some, None, List, [], ◌∷◌, ◌++◌, refl, ap, arith, append_assoc}
 use Rattle.std.proofs.lemmas.List.{append-nil}
-use Rattle.wasm_types.specs.Leb128.{and_then}
+use Rattle.wasm_types.specs.Leb128Texts.{and_then}
 use Rattle.script_lines.specs.Reading.{Read, items_at}
 
 -- items that were read, and those that are read behind them

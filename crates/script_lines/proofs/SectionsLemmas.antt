@@ -3,7 +3,7 @@ use Rattle.std.proofs.Common.{◌≡◌, inl, inr, List, ℕ, Result, Ok, Err, I
 use Rattle.run_report.specs.declared.compile_fault.CompileFault.{CompileFault}
 use Rattle.script_compiler.specs.Compiled.{IsCompiled}
 use Rattle.script_lines.specs.Lined.{IsNotLined, IsPastRoom, IsUnlined, table_of}
-use Rattle.awk_grammar.specs.Item.{Item}
+use Rattle.awk_grammar.specs.Trees.{Item}
 use Rattle.awk_parse.specs.Parsing.{IsParsed}
 use Rattle.awk_tokens.specs.Cutting.{IsTokens, Spelled}
 use Rattle.script_lines.specs.Lines.{FunctionForm}

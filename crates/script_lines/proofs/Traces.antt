@@ -2,7 +2,8 @@
 use Rattle.std.proofs.Common.{ℕ, zero, suc, ◌^◌, ◌<◌, ◌≤◌, List, [], ◌∷◌, ◌++◌, length, inl, refl, arith, length-append}
 use Rattle.std.proofs.lemmas.Str.{IsUtf8-from_ascii}
 use Rattle.std.specs.Str.{IsAscii}
-use Rattle.wasm_types.specs.Leb128.{IsU32, u32_text}
+use Rattle.wasm_types.specs.Leb128.{IsU32}
+use Rattle.wasm_types.specs.Leb128Texts.{u32_text}
 use Rattle.wasm_types.specs.ModuleGrammar.{Custom, IsCustom, IsModule, IsSection}
 use Rattle.wasm_types.specs.Profile.{most_module_bytes}
 use Rattle.wasm_types.specs.Syntax.{ModuleForm}

@@ -1,6 +1,6 @@
 -- The lines of a script's module, and the bytes that tell them.
 use Rattle.std.specs.Prelude.{◌≡◌, ◌⊎◌, ◌^◌, ◌<◌, ◌≤◌, ℕ, zero, suc, List, [], ◌∷◌, ◌++◌, length, map, Option, Some, None, Ok, codes, nat_lt, slice_get, unwrap_or, if◌then◌else◌}
-use Rattle.awk_grammar.specs.Item.{Item}
+use Rattle.awk_grammar.specs.Trees.{Item}
 use Rattle.awk_parse.specs.Parsing.{IsParsed}
 use Rattle.awk_tokens.specs.Cutting.{IsTokens, Spelled}
 use Rattle.awk_tree.specs.Lines.{function_names, line_at, places_in}

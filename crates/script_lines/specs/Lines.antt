@@ -2,7 +2,7 @@
 -- function's code. The last function is `main`, which the script does not name.
 use Rattle.std.specs.Prelude.{ℕ, zero, suc, List, [], ◌∷◌, ◌++◌, length, Option, Some, None, option_and_then, option_map, nat_lt, slice_get, if◌then◌else◌}
 use Rattle.std.specs.List.{flat_map}
-use Rattle.wasm_types.specs.Leb128.{u32_text}
+use Rattle.wasm_types.specs.Leb128Texts.{u32_text}
 use Rattle.module_writer.specs.Names.{counted}
 use Rattle.script_lines.specs.declared.module_table.FunctionLines.{FunctionLines}
 

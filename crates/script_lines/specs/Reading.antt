@@ -2,7 +2,7 @@
 use Rattle.std.specs.Prelude.{ℕ, zero, suc, ◌==◌, ◌^◌, ◌<◌, ◌&&◌, Bool, List, [], ◌∷◌, length, take, drop, Option, Some, None, nat_le, if◌then◌else◌}
 use Rattle.std.specs.Borrow.{Bor}
 use Rattle.std.specs.List.{AllByRecursion, starts_with}
-use Rattle.wasm_types.specs.Leb128.{and_then, u32_at}
+use Rattle.wasm_types.specs.Leb128Texts.{and_then, u32_at}
 use Rattle.script_lines.specs.Lines.{FunctionForm, own_name}
 
 -- what is at the front, and what comes after it

@@ -3,7 +3,7 @@ ghost use Rattle.std.specs.Prelude.{◌≡◌, IfOk, MatchResult, None, Some, ma
 ghost use Rattle.script_lines.specs.Lines.{form_of};
 ghost use Rattle.script_lines.specs.Reading.{function_at, items_at, lines_at, table_at, table_in};
 ghost use Rattle.script_lines.specs.declared.reading.Unread.TheVariants.{Malformed, NoMemory};
-ghost use Rattle.wasm_types.specs.Leb128.{u32_at};
+ghost use Rattle.wasm_types.specs.Leb128Texts.{u32_at};
 
 use crate::module_table::FunctionLines;
 use crate::sections::{counted, own_section};

@@ -1,6 +1,6 @@
 //! Laws of the definitions, each the contract of a function that does nothing.
 ghost use Rattle.std.specs.Prelude.{◌≡◌, ◌≤◌, List, length, slice_get, ℕ};
-ghost use Rattle.awk_grammar.specs.Item.{Item};
+ghost use Rattle.awk_grammar.specs.Trees.{Item};
 ghost use Rattle.awk_tokens.specs.Cutting.{Spelled};
 ghost use Rattle.awk_tree.specs.Lines.{function_names, line_of};
 ghost use Rattle.script_lines.specs.Lines.{line_in, name_in};

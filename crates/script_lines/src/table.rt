@@ -4,7 +4,7 @@ ghost use Rattle.awk_grammar.specs.ViewStmt.{view_script};
 ghost use Rattle.awk_parse.specs.Parsing.{IsParsed};
 ghost use Rattle.awk_tokens.specs.Cutting.{IsTokens, Spelled};
 ghost use Rattle.awk_tokens.specs.Views.{spelled};
-ghost use Rattle.awk_grammar.specs.Item.{Item as ItemForm};
+ghost use Rattle.awk_grammar.specs.Trees.{Item as ItemForm};
 ghost use Rattle.awk_tree.specs.Lines.{function_names, line_at};
 ghost use Rattle.script_lines.specs.Lines.{form_of};
 ghost use Rattle.script_lines.specs.Lined.{line_number, lines_of, name_of, row_of, table_of};

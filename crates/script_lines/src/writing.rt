@@ -1,7 +1,7 @@
 //! The section, behind the bytes of a module.
 ghost use Rattle.std.specs.Prelude.{◌≡◌, ◌++◌, ◌^◌, ◌<◌, ◌≤◌, IfErr, IfOk, OnOk, Some, length, map};
 ghost use Rattle.std.specs.List.{AllByRecursion, flat_map};
-ghost use Rattle.wasm_types.specs.Leb128.{u32_text};
+ghost use Rattle.wasm_types.specs.Leb128Texts.{u32_text};
 ghost use Rattle.wasm_types.specs.ModuleGrammar.{IsModule};
 ghost use Rattle.wasm_types.specs.Syntax.{ModuleForm};
 ghost use Rattle.script_lines.specs.Reading.{AllFit, Fits, IsWord, table_in};

@@ -5,7 +5,8 @@ use Rattle.awk_values.specs.declared.fault.Fault.{Fault}
 use Rattle.ere_syntax.specs.Tree.{Tree}
 use Rattle.sem_primitives.specs.SharedState.{◌>>=◌}
 use Rattle.sem_primitives.specs.Texts.{is_empty}
-use Rattle.sem_primitives.specs.FirstMatch.{longest, first_by, expression_of}
+use Rattle.sem_primitives.specs.FirstMatch.{longest, first_by}
+use Rattle.sem_primitives.specs.Eres.{expression_of}
 
 -- what stands between fields: runs of space, tab and newline; nothing, so that each byte is a field; a byte; the matches of an expression
 pub data Separator : Type 0 where

@@ -1,9 +1,6 @@
 -- The first match of a regular expression, computed: the leftmost, and of these the longest (POSIX XBD 9.1, 9.4).
-use Rattle.std.specs.Prelude.{ℕ, zero, suc, ◌+◌, ◌-◌, ◌==◌, ◌&&◌, nat_le, min, max, Bool, true, false, if◌then◌else◌, List, [], ◌∷◌, length, slice_get, Option, Some, None, Result, Ok, Err, is_some}
-use Rattle.awk_values.specs.declared.fault.Fault.{Fault}
-use Rattle.awk_values.specs.declared.fault.Fault.TheVariants.{BadEre, EreTooLarge}
-use Rattle.ere_syntax.specs.Tree.{Bytes, Tree, Empty, Set, Start, End, Group, Repeat, Concat, Or, positions, nesting, most_positions, most_ere_nesting}
-use Rattle.ere_syntax.specs.Scan.{ere_of}
+use Rattle.std.specs.Prelude.{ℕ, zero, suc, ◌+◌, ◌-◌, ◌==◌, nat_le, min, max, Bool, true, false, List, [], ◌∷◌, length, slice_get, Option, Some, None, is_some}
+use Rattle.ere_syntax.specs.Tree.{Bytes, Tree, Empty, Set, Start, End, Group, Repeat, Concat, Or}
 use Rattle.sem_primitives.specs.Texts.{has}
 
 -- Sets of places, as lists without an order.
@@ -93,14 +90,3 @@ first_match t text from = first_by (longest t text) (length text + 1 - from) fro
 
 abbrev pub has_match : Tree → List ℕ → Bool
 has_match t text = is_some (first_match t text 0)
-
--- the expression of a text, within the limits
-abbrev pub within_limits : Tree → Result Tree Fault
-within_limits t = if nat_le (positions t) most_positions && nat_le (nesting t) most_ere_nesting then Ok t else Err EreTooLarge
-
-abbrev pub or_bad : Option Tree → Result Tree Fault
-or_bad None = Err BadEre
-or_bad (Some t) = within_limits t
-
-abbrev pub expression_of : List ℕ → Result Tree Fault
-expression_of text = or_bad (ere_of text)

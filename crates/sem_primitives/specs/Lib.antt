@@ -7,6 +7,7 @@ pub mod Finds
 pub mod Texts
 pub mod ValueMeaning
 pub mod FirstMatch
+pub mod Eres
 pub mod Fields
 pub mod Records
 pub mod Formats

@@ -9,7 +9,8 @@ use Rattle.ere_syntax.specs.Tree.{Tree}
 use Rattle.sem_primitives.specs.Numbers.{Number}
 use Rattle.sem_primitives.specs.SharedState.{Inner, ◌>>=◌, with_special}
 use Rattle.sem_primitives.specs.Texts.{is_empty, begins_with, limited, counted, count_value}
-use Rattle.sem_primitives.specs.FirstMatch.{first_match, has_match, expression_of}
+use Rattle.sem_primitives.specs.FirstMatch.{first_match, has_match}
+use Rattle.sem_primitives.specs.Eres.{expression_of}
 use Rattle.sem_primitives.specs.Fields.{Separator, Expression, separator_of, pieces_of}
 use Rattle.sem_primitives.specs.ArrayMeaning.{with_array, numbered}
 use Rattle.sem_primitives.specs.declared.constants.Special.TheVariants.{Rlength, Rstart}

@@ -1,8 +1,6 @@
 -- The meaning of items (POSIX.1-2017 awk, "Overall Program Structure", "Patterns").
 use Rattle.std.specs.Prelude.{ℕ, ◌+◌, Bool, true, false, if◌then◌else◌, List, [], ◌∷◌}
-use Rattle.awk_grammar.specs.Tree.{Tree}
-use Rattle.awk_grammar.specs.Stmt.{Print, NoArgs, NoTarget, Put, Simple, Stmts, NoStmt, And}
-use Rattle.awk_grammar.specs.Item.{Pattern, One, Between, Item, Function, Begin, End, Always, When, Lone, Nothing}
+use Rattle.awk_grammar.specs.Trees.{Tree, Print, NoArgs, NoTarget, Put, Simple, Stmts, NoStmt, And, Pattern, One, Between, Item, Function, Begin, End, Always, When, Lone, Nothing}
 use Rattle.sem_scripts.specs.Names.{Resolved, Scope}
 use Rattle.sem_scripts.specs.ScriptState.{State, Execution, ◌>>=◌, ◌>>◌, give, nothing, look, change, with_range}
 use Rattle.sem_scripts.specs.Meaning.{Calls}

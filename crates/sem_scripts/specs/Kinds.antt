@@ -1,7 +1,6 @@
 -- A script with the kinds of its names. The kinds are those of awk_grammar; here they meet the bodies of the functions and the items.
 use Rattle.std.specs.Prelude.{List, [], ◌∷◌}
-use Rattle.awk_grammar.specs.Stmt.{Stmts, NoStmt}
-use Rattle.awk_grammar.specs.Item.{Item, Function}
+use Rattle.awk_grammar.specs.Trees.{Stmts, NoStmt, Item, Function}
 use Rattle.awk_grammar.specs.Kinds.{Function as Typed, Resolved as Kinds, resolved as kinds_of}
 use Rattle.sem_scripts.specs.Names.{Function as Defined, Resolved}
 

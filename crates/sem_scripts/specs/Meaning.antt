@@ -15,7 +15,7 @@ use Rattle.sem_primitives.specs.declared.table.Listed.TheVariants as listed
 use Rattle.awk_tokens.specs.declared.reserved_words.Builtin.{Builtin}
 use Rattle.awk_tokens.specs.declared.reserved_words.Builtin.TheVariants as builtin
 use Rattle.awk_grammar.specs.Token.{Plus, Minus, Not, Signed, Set, SetSum, SetProduct, SetPower, Assign, Or, And, Match, Matching, Matches, Differs, Compare, Mul, Over, Pow, Number, Quoted, Ere}
-use Rattle.awk_grammar.specs.Tree.{Tree, Leaf, Length, Var, Index, Field, Group, Call, Apply, Unary, Pre, Post, Bin, Join, Add, Other, Has, HasList, Cond, Get, GetInto, GetFrom, GetIntoFrom, Trees, NoTree, Then}
+use Rattle.awk_grammar.specs.Trees.{Tree, Leaf, Length, Var, Index, Field, Group, Call, Apply, Unary, Pre, Post, Bin, Join, Add, Other, Has, HasList, Cond, Get, GetInto, GetFrom, GetIntoFrom, Trees, NoTree, Then}
 use Rattle.sem_scripts.specs.Names.{Name, Scope, function_number, function_at, variable_of, array_of, is_array}
 use Rattle.sem_scripts.specs.ScriptState.{Local, Scalar, Array, OutOfTurns, Execution, ◌>>=◌, ◌>>◌, give, stop, change, settled, call, call_listed, asks, spend, with_global}
 use Rattle.sem_scripts.specs.Steps.{constant, or_nought, given_value, numeric, zero_number, one_number, truth_value, number_in, arithmetic, sign_operator, product_operator, power_operator, step_operator, computed, comparison_of, compared, array_number, read_variable, field_checked, Place, Named, Element, FieldAt, read_place, store_place, stored, ere_text, ere_in, ere_or, is_ere, input_number, stream_number, received, fresh_all, updated, substituted}

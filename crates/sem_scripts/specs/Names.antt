@@ -3,8 +3,7 @@ use Rattle.std.specs.Prelude.{ℕ, zero, suc, ◌+◌, Bool, true, false, ◌||�
 use Rattle.sem_primitives.specs.declared.constants.Special.{Special}
 use Rattle.sem_primitives.specs.Assignments.{special_name}
 use Rattle.sem_primitives.specs.Constants.{specials}
-use Rattle.awk_grammar.specs.Stmt.{Stmts, NoStmt}
-use Rattle.awk_grammar.specs.Item.{Item}
+use Rattle.awk_grammar.specs.Trees.{Stmts, NoStmt, Item}
 pub use Rattle.awk_grammar.specs.Kinds.{Name, same_name}
 
 pub record Function : Type 0 where

@@ -10,8 +10,7 @@ use Rattle.sem_primitives.specs.declared.table.Primitive.TheVariants as row
 use Rattle.sem_primitives.specs.declared.table.Listed.{Listed}
 use Rattle.sem_primitives.specs.declared.table.Listed.TheVariants as listed
 use Rattle.awk_grammar.specs.Token.{Number}
-use Rattle.awk_grammar.specs.Tree.{Tree, Leaf, Field, Trees, NoTree, Then}
-use Rattle.awk_grammar.specs.Stmt.{Printing, Print, Printf, Args, NoArgs, Listed as Operands, Enclosed, Target, NoTarget, Written, Appended, Plain, Eval, Put, Delete, Clear, Break, Continue, Next, NextFile, Exit, Return, Stmt, Block, Empty, Simple, If, IfElse, While, Do, For, ForIn, Jumping, Leave, Stmts, NoStmt, And}
+use Rattle.awk_grammar.specs.Trees.{Tree, Leaf, Field, Trees, NoTree, Then, Printing, Print, Printf, Args, NoArgs, Listed as Operands, Enclosed, Target, NoTarget, Written, Appended, Plain, Eval, Put, Delete, Clear, Break, Continue, Next, NextFile, Exit, Return, Stmt, Block, Empty, Simple, If, IfElse, While, Do, For, ForIn, Jumping, Leave, Stmts, NoStmt, And}
 use Rattle.sem_scripts.specs.Names.{Function, Resolved, Scope, function_at, variable_of, array_of}
 use Rattle.sem_scripts.specs.ScriptState.{Local, State, CallFrame, Faulted, OutOfTurns, TooDeep, Nexted, Exited, Returned, Outcome, Gives, Stops, Execution, ◌>>=◌, ◌>>◌, give, nothing, stop, change, call, call_listed, spend}
 use Rattle.sem_scripts.specs.Steps.{number_in, array_number, store_variable}

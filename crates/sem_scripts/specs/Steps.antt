@@ -20,7 +20,7 @@ use Rattle.sem_primitives.specs.declared.answers.StreamAnswer.{StreamAnswer}
 use Rattle.sem_primitives.specs.declared.answers.StreamAnswer.TheVariants as stream
 use Rattle.sem_primitives.specs.declared.table.Primitive.TheVariants.{Pow, GetSpecial, SetSpecial, Field, SetField, NewArray, Elem, SetElem, Sub, SubResult, Line}
 use Rattle.awk_grammar.specs.Token.{Sign, Plus, Minus, Step, Increment, Decrement, Comparison, Less, LessEqual, Equal, NotEqual, Greater, GreaterEqual, Product, Times, Over, Modulo, Literal, Ere}
-use Rattle.awk_grammar.specs.Tree.{Tree, Leaf, Group}
+use Rattle.awk_grammar.specs.Trees.{Tree, Leaf, Group}
 use Rattle.sem_scripts.specs.Names.{Name, Variable, Global, Parameter, Reserved, ArrayName, Numbered, Given}
 use Rattle.sem_scripts.specs.ScriptState.{Local, Scalar, Array, Execution, ◌>>=◌, ◌>>◌, give, nothing, look, change, settled, call, global_value, local_value, local_array, with_global, with_local}
 

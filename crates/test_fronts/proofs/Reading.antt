@@ -5,7 +5,7 @@ use Rattle.awk_tokens.specs.Cutting.{Spelled, IsTokens, finished}
 use Rattle.awk_tokens.specs.Reading.{raw_of}
 use Rattle.awk_tokens.proofs.Whole.{one_outcome, read_is_tokens}
 use Rattle.awk_grammar.specs.Token.{Fault, Syntax, TooDeep as DepthFault}
-use Rattle.awk_grammar.specs.Item.{Item}
+use Rattle.awk_grammar.specs.Trees.{Item}
 use Rattle.awk_grammar.specs.Lexeme.{spoken}
 use Rattle.awk_grammar.specs.ReadItem.{script_at}
 use Rattle.awk_grammar.proofs.ItemComplete.{script_again}

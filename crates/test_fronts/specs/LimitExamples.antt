@@ -4,7 +4,7 @@ use Rattle.awk_values.specs.declared.fault.Fault.{Fault}
 use Rattle.awk_values.specs.declared.fault.Fault.TheVariants.{EreTooLarge, TooManyStreams}
 use Rattle.world_core.specs.WorldState.{Standard, puts}
 use Rattle.ere_syntax.specs.Scan.{table, sign_of}
-use Rattle.sem_primitives.specs.FirstMatch.{expression_of}
+use Rattle.sem_primitives.specs.Eres.{expression_of}
 use Rattle.sem_scripts.specs.ScriptRun.{Ending, Ended, FaultedBy, setting_of}
 use Rattle.test_fronts.specs.Settings.{no_job, no_input, empty}
 use Rattle.test_fronts.specs.Jobs.{input}

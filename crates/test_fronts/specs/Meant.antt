@@ -1,7 +1,7 @@
 -- What a script read from bytes, its run and its refusal mean, in the words of the compiler's theorem.
 use Rattle.std.specs.Prelude.{◌≡◌, ℕ, List, Some, None, Ok, Err}
 use Rattle.awk_tokens.specs.Cutting.{Spelled, IsTokens}
-use Rattle.awk_grammar.specs.Item.{Item}
+use Rattle.awk_grammar.specs.Trees.{Item}
 use Rattle.awk_parse.specs.Scan.{scan}
 use Rattle.awk_parse.specs.Parsing.{IsParsed, HasNoTree, HasNoSmallTree, IsMisplaced}
 use Rattle.awk_grammar.specs.Kinds.{Refusal, refusal}

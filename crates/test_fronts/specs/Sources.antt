@@ -10,7 +10,7 @@ use Rattle.awk_tokens.specs.Pieces.{punctuators}
 use Rattle.awk_tokens.specs.Cutting.{Spelled, finished}
 use Rattle.awk_tokens.specs.Reading.{scale_at, exponent_length, fraction_length, number_at, close_at, mark_at, joined_at, name_at, front_at, cut_at, raw_of}
 use Rattle.awk_grammar.specs.Token.{Fault, Syntax as SyntaxFault, TooDeep as DepthFault}
-use Rattle.awk_grammar.specs.Item.{Item}
+use Rattle.awk_grammar.specs.Trees.{Item}
 use Rattle.awk_grammar.specs.Lexeme.{spoken}
 use Rattle.awk_grammar.specs.Reading.{expr_at}
 use Rattle.awk_grammar.specs.ReadStmt.{stmt_at}

@@ -8,7 +8,7 @@ use Rattle.awk_text.specs.Escapes.{unescaped, escaped, octal}
 use Rattle.awk_tokens.specs.Words.{keywords, builtins, left_out_words}
 use Rattle.ere_syntax.specs.Scan.{table, sign_of}
 use Rattle.world_core.specs.WorldState.{Source}
-use Rattle.awk_grammar.specs.Item.{Item}
+use Rattle.awk_grammar.specs.Trees.{Item}
 use Rattle.awk_grammar.specs.Kinds.{special_arrays, special_scalars}
 use Rattle.sem_scripts.specs.Kinds.{resolved}
 use Rattle.sem_scripts.specs.ScriptRun.{setting_of}

@@ -1,13 +1,15 @@
-//! Says of each script on standard input which tokens it has, whether it has a tree, which kinds its names have, or what is found in it.
+//! Says of each script on standard input which tokens it has, whether it has a tree, which kinds its names have, or what is found in it; and of each expression
+//! what its tree is and what it matches (`eres`).
 //!
-//! A line is a script, in which a byte 1 stands for a newline. A line `# tokens`, `# words`, `# trees`, `# parentheses`, `# names` or `# findings` says
-//! what is asked of the lines behind it: the tokens (there a backslash begins an escape, as in awk's strings); which reserved word it is; whether there is a
-//! tree, of a script or of one with so many parentheses; the kinds of names; what is found in a script.
+//! A line is a script, in which a byte 1 stands for a newline. A line `# tokens`, `# words`, `# trees`, `# parentheses`, `# names`, `# findings` or
+//! `# expressions` says what is asked of the lines behind it: the tokens (there a backslash begins an escape, as in awk's strings); which reserved word it is;
+//! whether there is a tree, of a script or of one with so many parentheses; the kinds of names; what is found in a script; what a call on an expression gives.
 //!
 //! Beside it stand scripts whose runs are computed from the definition of the language and from their mid code, from their bytes to what they put out, and
 //! programs whose modules are run on the machine over values: definitions and examples, and two laws.
 #![tactic(auto)]
 
+mod eres;
 mod found;
 mod kinds;
 mod names;
@@ -17,6 +19,7 @@ mod token_lists;
 mod trees;
 
 use awk_text::unescape;
+use eres::answer_of;
 use found::found_page;
 use kinds::reserved_text;
 use names::names_or_refusal;
@@ -34,6 +37,7 @@ enum Question {
     Parentheses,
     Names,
     Findings,
+    Expressions,
 }
 
 /// The question that a line names.
@@ -45,6 +49,7 @@ fn question_of(line: &str) -> Option<Question> {
         "# parentheses" => Some(Question::Parentheses),
         "# names" => Some(Question::Names),
         "# findings" => Some(Question::Findings),
+        "# expressions" => Some(Question::Expressions),
         _ => None,
     }
 }
@@ -73,6 +78,7 @@ fn answer(alloc: Global, question: Question, line: &str) -> Result<String, Alloc
         Question::Parentheses => of_parentheses(alloc, line),
         Question::Names => names_or_refusal(alloc, &script_of(alloc, line)?),
         Question::Findings => found_page(alloc, &script_of(alloc, line)?),
+        Question::Expressions => answer_of(alloc, line),
     }
 }
 

@@ -1,6 +1,6 @@
 //! What the rows compute is what the definitions say. Each law is the contract of a function that does nothing.
 ghost use Rattle.std.specs.Prelude.{◌≡◌, ◌↔◌, ℕ, List, Ok, Err};
-ghost use Rattle.awk_grammar.specs.Item.{Item};
+ghost use Rattle.awk_grammar.specs.Trees.{Item};
 ghost use Rattle.sem_scripts.specs.ScriptRun.{Ending, Setting};
 ghost use Rattle.test_fronts.specs.Sources.{Refused, run_in, script_of};
 ghost use Rattle.test_fronts.specs.Meant.{IsRefusedFor, IsRunOf, IsScriptOf};

@@ -1,6 +1,6 @@
 //! Scripts, compiled and run.
 ghost use Rattle.std.specs.Prelude.{◌≡◌, ℕ, List, IfOk, IfErr};
-ghost use Rattle.awk_run.specs.ModuleRun.{Answers};
+ghost use Rattle.awk_run.specs.ModuleRun.{Answers, IsGiven};
 ghost use Rattle.awk_run.specs.ScriptRuns.{ScriptAnswers};
 ghost use Rattle.host_tables.specs.Starts.{empty_job, job_of};
 ghost use Rattle.script_compiler.specs.Compiled.{IsCompiled};
@@ -28,7 +28,8 @@ pub fn run_once<W: World>(
     world: W,
 ) -> Result<(RunEnd, W), (CompileFault, W)>
     ensures ran { IfOk result (λ r. (bytes : List ℕ) × IsCompiled script.now bytes
-        × Answers W.is_modelled bytes (job_of job.now) 100000000 (W.state world) r.0 (W.state r.1)) }
+        × Answers W.is_modelled (IsGiven W.did world r.1) bytes (job_of job.now) 100000000
+        (W.state world) r.0 (W.state r.1)) }
     ensures refused { IfErr result (λ e. IsNotCompiled script.now e.0 × (e.1 ≡ world)) }
 {
     match compile(alloc, script) {
@@ -44,8 +45,8 @@ pub fn run_alone<W: World>(
     state: RandomState,
     world: W,
 ) -> (RunEnd, W)
-    ensures { ScriptAnswers W.is_modelled script.now empty_job 100000000 (W.state world) result.0
-        (W.state result.1) }
+    ensures { ScriptAnswers W.is_modelled (IsGiven W.did world result.1) script.now empty_job
+        100000000 (W.state world) result.0 (W.state result.1) }
 {
     let job = Job::empty(alloc);
     run_script(alloc, script, &job, state, world, STEPS)

@@ -7,7 +7,7 @@ use Rattle.awk_tokens.specs.declared.reserved_words.Builtin.{Builtin}
 use Rattle.awk_tokens.specs.declared.reserved_words.Builtin.TheVariants as builtin
 use Rattle.awk_grammar.specs.Token.{And, Assign, Compare, Differs, Ere, Match, Matches, Minus, Mul, Not, Number as Numeral, Or, Over as Divided, Plus, Pow, Quoted, Set as Put, SetPower, SetProduct, SetSum, Signed}
 use Rattle.awk_grammar.specs.Token as token
-use Rattle.awk_grammar.specs.Tree.{Add, Apply, Bin, Call, Cond, Field, Get, GetFrom, GetInto, GetIntoFrom, Group, Has, HasList, Index, Join, Leaf, Length, NoTree, Other, Post, Pre, Then, Tree, Trees, Unary, Var}
+use Rattle.awk_grammar.specs.Trees.{Add, Apply, Bin, Call, Cond, Field, Get, GetFrom, GetInto, GetIntoFrom, Group, Has, HasList, Index, Join, Leaf, Length, NoTree, Other, Post, Pre, Then, Tree, Trees, Unary, Var}
 use Rattle.mid_program.specs.declared.mid.Operation.{Operation}
 use Rattle.mid_program.specs.declared.mid.Operation.TheVariants.{Host}
 use Rattle.mid_program.specs.Mid.{PrimitiveAnswer, AskLine, Code, Codes, Do, FileLine, Form, Let, OptionalNumber, a_number, a_value, answer_by, form_of}

@@ -5,7 +5,8 @@ use Rattle.sem_primitives.specs.declared.table.Primitive.TheVariants as row
 use Rattle.awk_tokens.specs.declared.reserved_words.Builtin.{Builtin}
 use Rattle.awk_tokens.specs.declared.reserved_words.Builtin.TheVariants as builtin
 use Rattle.awk_grammar.specs.Token.{And, Assign, Compare, Differs, Ere, Match, Matches, Minus, Modulo, Mul, Not, Number as Numeral, Or, Over, Plus, Pow, Quoted, Set, SetPower, SetProduct, SetSum, Sign, Signed, Product, Times}
-use Rattle.awk_grammar.specs.Tree.{Add, Apply, Bin, Call, Cond, Field, Get, GetFrom, GetInto, GetIntoFrom, Group, Has, HasList, Index, Join, Leaf, Length, NoTree, Other, Post, Pre, Then, Tree, Trees, Unary, Var, second_is_var, suits, within}
+use Rattle.awk_grammar.specs.Tree.{second_is_var, suits, within}
+use Rattle.awk_grammar.specs.Trees.{Add, Apply, Bin, Call, Cond, Field, Get, GetFrom, GetInto, GetIntoFrom, Group, Has, HasList, Index, Join, Leaf, Length, NoTree, Other, Post, Pre, Then, Tree, Trees, Unary, Var}
 use Rattle.mid_program.specs.declared.mid.Operation.{Operation}
 use Rattle.mid_program.specs.declared.mid.Operation.TheVariants.{Host}
 use Rattle.mid_program.specs.Mid.{PrimitiveAnswer, AskLine, Code, Do, FileLine, Form, Let, a_number, answer_by, form_of}

@@ -1,10 +1,7 @@
 -- What a script's code stores is what the script stores, of statements, items and functions.
 use Rattle.std.proofs.Common.{◌≡◌, ℕ, suc, ◌+◌, List, [], ◌∷◌, ◌++◌, Option, Some, None, map, refl, sym, ap, subst}
-use Rattle.awk_grammar.specs.Tree.{Tree, Var}
-use Rattle.awk_grammar.specs.Stmt.{And, Clear, Delete, Eval, NoStmt, Plain, Put, Stmt, Stmts}
-use Rattle.awk_grammar.specs.Stmt as stmt
-use Rattle.awk_grammar.specs.Item.{Item, Pattern}
-use Rattle.awk_grammar.specs.Item as item
+use Rattle.awk_grammar.specs.Trees.{Tree, Var, And, Clear, Delete, Eval, NoStmt, Plain, Put, Stmt, Stmts, Item, Pattern}
+use Rattle.awk_grammar.specs.Trees as stmt
 use Rattle.sem_scripts.specs.Items.{pattern_ranges, print_record, top}
 use Rattle.mid_program.specs.Mid.{Block, Form, Step, Steps, a_value}
 use Rattle.sem_scripts.specs.Names.{Function, Resolved, Scope, functions_length, variable_of}
@@ -100,8 +97,8 @@ module _ (x : Scalar) (g : ℕ) (texts : List (List ℕ)) (scope : Scope) where
   -- items
 
   where_fit : (i : ℕ) (p : Pattern) (action : Step) → Ok (pattern_stores g scope p) → StepFits action → StepFits (where_code texts scope i p action)
-  where_fit i (item.One t) action h k = both x g (L t) (step_stores action ++ []) (tree_fit t h []) (alone x g (step_stores action) k)
-  where_fit i (item.Between t u) action h k =
+  where_fit i (stmt.One t) action h k = both x g (L t) (step_stores action ++ []) (tree_fit t h []) (alone x g (step_stores action) k)
+  where_fit i (stmt.Between t u) action h k =
       let done = (L u ++ []) ++ (step_stores action ++ []) in
       both x g (L t ++ []) ((done ++ []) ++ []) (alone x g (L t) (tree_fit t (first x (S t) (S u) h) []))
       (alone x g (done ++ []) (alone x g done
@@ -109,47 +106,47 @@ module _ (x : Scalar) (g : ℕ) (texts : List (List ℕ)) (scope : Scope) where
 
   items_fit : (i : ℕ) (is : List Item) → Ok (items_stores g scope is) → Fit x g (steps_stores (items_code texts scope i is))
   items_fit i [] h = tt
-  items_fit i (item.Function f ps ss ∷ is) h = items_fit i is h
-  items_fit i (item.Begin ss ∷ is) h = items_fit i is (second x (stmts_stores g scope ss) (items_stores g scope is) h)
-  items_fit i (item.End ss ∷ is) h = items_fit i is (second x (stmts_stores g scope ss) (items_stores g scope is) h)
-  items_fit i (item.Always ss ∷ is) h =
+  items_fit i (stmt.Function f ps ss ∷ is) h = items_fit i is h
+  items_fit i (stmt.Begin ss ∷ is) h = items_fit i is (second x (stmts_stores g scope ss) (items_stores g scope is) h)
+  items_fit i (stmt.End ss ∷ is) h = items_fit i is (second x (stmts_stores g scope ss) (items_stores g scope is) h)
+  items_fit i (stmt.Always ss ∷ is) h =
       both x g (steps_stores (steps_code texts scope ss)) _ (steps_fit ss (first x (stmts_stores g scope ss) (items_stores g scope is) h))
       (items_fit i is (second x (stmts_stores g scope ss) (items_stores g scope is) h))
-  items_fit i (item.When p ss ∷ is) h =
+  items_fit i (stmt.When p ss ∷ is) h =
       let own = first x (pattern_stores g scope p ++ stmts_stores g scope ss) (items_stores g scope is) h in
       both x g (step_stores (where_code texts scope i p (Block (steps_code texts scope ss)))) _
       (where_fit i p (Block (steps_code texts scope ss)) (first x (pattern_stores g scope p) (stmts_stores g scope ss) own)
       (steps_fit ss (second x (pattern_stores g scope p) (stmts_stores g scope ss) own)))
       (items_fit (pattern_ranges p + i) is (second x (pattern_stores g scope p ++ stmts_stores g scope ss) (items_stores g scope is) h))
-  items_fit i (item.Lone p ∷ is) h =
+  items_fit i (stmt.Lone p ∷ is) h =
       both x g (step_stores (where_code texts scope i p (Block (steps_code texts scope print_record)))) _
       (where_fit i p (Block (steps_code texts scope print_record)) (first x (pattern_stores g scope p) (items_stores g scope is) h) (steps_fit print_record tt))
       (items_fit (pattern_ranges p + i) is (second x (pattern_stores g scope p) (items_stores g scope is) h))
-  items_fit i (item.Nothing ∷ is) h = items_fit i is h
+  items_fit i (stmt.Nothing ∷ is) h = items_fit i is h
 
   begin_fit : (is : List Item) → Ok (items_stores g scope is) → Fit x g (steps_stores (begin_code texts scope is))
   begin_fit [] h = tt
-  begin_fit (item.Begin ss ∷ is) h =
+  begin_fit (stmt.Begin ss ∷ is) h =
       both x g (steps_stores (steps_code texts scope ss)) _ (steps_fit ss (first x (stmts_stores g scope ss) (items_stores g scope is) h))
       (begin_fit is (second x (stmts_stores g scope ss) (items_stores g scope is) h))
-  begin_fit (item.Function f ps ss ∷ is) h = begin_fit is h
-  begin_fit (item.End ss ∷ is) h = begin_fit is (second x (stmts_stores g scope ss) (items_stores g scope is) h)
-  begin_fit (item.Always ss ∷ is) h = begin_fit is (second x (stmts_stores g scope ss) (items_stores g scope is) h)
-  begin_fit (item.When p ss ∷ is) h = begin_fit is (second x (pattern_stores g scope p ++ stmts_stores g scope ss) (items_stores g scope is) h)
-  begin_fit (item.Lone p ∷ is) h = begin_fit is (second x (pattern_stores g scope p) (items_stores g scope is) h)
-  begin_fit (item.Nothing ∷ is) h = begin_fit is h
+  begin_fit (stmt.Function f ps ss ∷ is) h = begin_fit is h
+  begin_fit (stmt.End ss ∷ is) h = begin_fit is (second x (stmts_stores g scope ss) (items_stores g scope is) h)
+  begin_fit (stmt.Always ss ∷ is) h = begin_fit is (second x (stmts_stores g scope ss) (items_stores g scope is) h)
+  begin_fit (stmt.When p ss ∷ is) h = begin_fit is (second x (pattern_stores g scope p ++ stmts_stores g scope ss) (items_stores g scope is) h)
+  begin_fit (stmt.Lone p ∷ is) h = begin_fit is (second x (pattern_stores g scope p) (items_stores g scope is) h)
+  begin_fit (stmt.Nothing ∷ is) h = begin_fit is h
 
   end_fit : (is : List Item) → Ok (items_stores g scope is) → Fit x g (steps_stores (end_code texts scope is))
   end_fit [] h = tt
-  end_fit (item.End ss ∷ is) h =
+  end_fit (stmt.End ss ∷ is) h =
       both x g (steps_stores (steps_code texts scope ss)) _ (steps_fit ss (first x (stmts_stores g scope ss) (items_stores g scope is) h))
       (end_fit is (second x (stmts_stores g scope ss) (items_stores g scope is) h))
-  end_fit (item.Function f ps ss ∷ is) h = end_fit is h
-  end_fit (item.Begin ss ∷ is) h = end_fit is (second x (stmts_stores g scope ss) (items_stores g scope is) h)
-  end_fit (item.Always ss ∷ is) h = end_fit is (second x (stmts_stores g scope ss) (items_stores g scope is) h)
-  end_fit (item.When p ss ∷ is) h = end_fit is (second x (pattern_stores g scope p ++ stmts_stores g scope ss) (items_stores g scope is) h)
-  end_fit (item.Lone p ∷ is) h = end_fit is (second x (pattern_stores g scope p) (items_stores g scope is) h)
-  end_fit (item.Nothing ∷ is) h = end_fit is h
+  end_fit (stmt.Function f ps ss ∷ is) h = end_fit is h
+  end_fit (stmt.Begin ss ∷ is) h = end_fit is (second x (stmts_stores g scope ss) (items_stores g scope is) h)
+  end_fit (stmt.Always ss ∷ is) h = end_fit is (second x (stmts_stores g scope ss) (items_stores g scope is) h)
+  end_fit (stmt.When p ss ∷ is) h = end_fit is (second x (pattern_stores g scope p ++ stmts_stores g scope ss) (items_stores g scope is) h)
+  end_fit (stmt.Lone p ∷ is) h = end_fit is (second x (pattern_stores g scope p) (items_stores g scope is) h)
+  end_fit (stmt.Nothing ∷ is) h = end_fit is h
 
 -- whole scripts, whose constants are computed
 

@@ -11,10 +11,8 @@ use Rattle.sem_primitives.specs.Jobs.{JobForm}
 use Rattle.awk_grammar.specs.Kinds.{special_arrays, special_scalars}
 use Rattle.awk_tokens.specs.Words.{keywords, builtins, left_out_words}
 use Rattle.awk_grammar.specs.Token as token
-use Rattle.awk_grammar.specs.Tree as tree
-use Rattle.awk_grammar.specs.Stmt as stmt
-use Rattle.awk_grammar.specs.Item as item
-use Rattle.awk_grammar.specs.Item.{Item}
+use Rattle.awk_grammar.specs.Trees as tree
+use Rattle.awk_grammar.specs.Trees.{Item}
 use Rattle.sem_scripts.specs.ScriptState.{spend_all}
 use Rattle.sem_scripts.specs.Kinds.{resolved}
 use Rattle.sem_scripts.specs.Meaning.{asked}
@@ -49,25 +47,25 @@ with_file name bytes outside = replaced (Named name) (record { bytes = Some byte
 
 -- BEGIN { print n; print n + 1 }
 abbrev printed_then_added : List Item
-printed_then_added = (item.Begin (stmt.And (stmt.Simple
-    (stmt.Put stmt.Print (stmt.Listed (tree.Then (tree.Var (codes "n")) tree.NoTree)) stmt.NoTarget))
-    (stmt.And (stmt.Simple (stmt.Put stmt.Print
-    (stmt.Listed (tree.Then (tree.Bin (tree.Add token.Plus) (tree.Var (codes "n"))
-    (tree.Leaf (token.Number (codes "1")))) tree.NoTree)) stmt.NoTarget)) stmt.NoStmt))) ∷ []
+printed_then_added = (tree.Begin (tree.And (tree.Simple
+    (tree.Put tree.Print (tree.Listed (tree.Then (tree.Var (codes "n")) tree.NoTree)) tree.NoTarget))
+    (tree.And (tree.Simple (tree.Put tree.Print
+    (tree.Listed (tree.Then (tree.Bin (tree.Add token.Plus) (tree.Var (codes "n"))
+    (tree.Leaf (token.Number (codes "1")))) tree.NoTree)) tree.NoTarget)) tree.NoStmt))) ∷ []
 
 -- { n++; print n }
 abbrev counted : List Item
-counted = (item.Always (stmt.And (stmt.Simple (stmt.Eval (tree.Post token.Increment (tree.Var (codes "n")))))
-    (stmt.And (stmt.Simple (stmt.Put stmt.Print (stmt.Listed (tree.Then (tree.Var (codes "n")) tree.NoTree)) stmt.NoTarget)) stmt.NoStmt))) ∷ []
+counted = (tree.Always (tree.And (tree.Simple (tree.Eval (tree.Post token.Increment (tree.Var (codes "n")))))
+    (tree.And (tree.Simple (tree.Put tree.Print (tree.Listed (tree.Then (tree.Var (codes "n")) tree.NoTree)) tree.NoTarget)) tree.NoStmt))) ∷ []
 
 -- BEGIN { n = 2^53; n++; print "no" }
 abbrev past_range : List Item
-past_range = (item.Begin (stmt.And (stmt.Simple
-    (stmt.Eval (tree.Bin (tree.Other (token.Assign token.Set)) (tree.Var (codes "n"))
+past_range = (tree.Begin (tree.And (tree.Simple
+    (tree.Eval (tree.Bin (tree.Other (token.Assign token.Set)) (tree.Var (codes "n"))
     (tree.Bin (tree.Other token.Pow) (tree.Leaf (token.Number (codes "2"))) (tree.Leaf (token.Number (codes "53")))))))
-    (stmt.And (stmt.Simple (stmt.Eval (tree.Post token.Increment (tree.Var (codes "n")))))
-    (stmt.And (stmt.Simple (stmt.Put stmt.Print (stmt.Listed (tree.Then (tree.Leaf (token.Quoted (34 ∷ 110 ∷ 111 ∷ 34
-    ∷ []))) tree.NoTree)) stmt.NoTarget)) stmt.NoStmt)))) ∷ []
+    (tree.And (tree.Simple (tree.Eval (tree.Post token.Increment (tree.Var (codes "n")))))
+    (tree.And (tree.Simple (tree.Put tree.Print (tree.Listed (tree.Then (tree.Leaf (token.Quoted (34 ∷ 110 ∷ 111 ∷ 34
+    ∷ []))) tree.NoTree)) tree.NoTarget)) tree.NoStmt)))) ∷ []
 
 -- -v n=0.5: the text is printed as it is; its number is a fraction
 pub text_before_a_number : lanes_of printed_then_added ≡ record { globals = Unboxed ∷ []; parameters = [] }
@@ -110,11 +108,11 @@ copies_are_boxed = (refl, refl)
 
 -- BEGIN { while (n < 10) n = n + 1; print n }
 abbrev counted_up : List Item
-counted_up = (item.Begin (stmt.And (stmt.While (tree.Bin (tree.Other (token.Compare token.Less)) (tree.Var (codes "n"))
+counted_up = (tree.Begin (tree.And (tree.While (tree.Bin (tree.Other (token.Compare token.Less)) (tree.Var (codes "n"))
     (tree.Leaf (token.Number (codes "10"))))
-    (stmt.Simple (stmt.Eval (tree.Bin (tree.Other (token.Assign token.Set)) (tree.Var (codes "n"))
+    (tree.Simple (tree.Eval (tree.Bin (tree.Other (token.Assign token.Set)) (tree.Var (codes "n"))
     (tree.Bin (tree.Add token.Plus) (tree.Var (codes "n")) (tree.Leaf (token.Number (codes "1"))))))))
-    (stmt.And (stmt.Simple (stmt.Put stmt.Print (stmt.Listed (tree.Then (tree.Var (codes "n")) tree.NoTree)) stmt.NoTarget)) stmt.NoStmt))) ∷ []
+    (tree.And (tree.Simple (tree.Put tree.Print (tree.Listed (tree.Then (tree.Var (codes "n")) tree.NoTree)) tree.NoTarget)) tree.NoStmt))) ∷ []
 
 -- a test on numbers, and a sum
 pub counted_in_a_loop : lanes_of counted_up ≡ record { globals = Unboxed ∷ []; parameters = [] } × is_sorted (with_lanes counted_up) ≡ true

@@ -5,11 +5,8 @@ use Rattle.std.proofs.lemmas.List.Elements.{All-from_recursion, recursion_from_A
 use Rattle.awk_grammar.specs.Kinds.{special_arrays, special_scalars}
 use Rattle.awk_tokens.specs.declared.reserved_words.Builtin.TheVariants as builtin
 use Rattle.awk_grammar.specs.Token as token
-use Rattle.awk_grammar.specs.Tree.{Tree}
-use Rattle.awk_grammar.specs.Tree as tree
-use Rattle.awk_grammar.specs.Stmt as stmt
-use Rattle.awk_grammar.specs.Item as item
-use Rattle.awk_grammar.specs.Item.{Item}
+use Rattle.awk_grammar.specs.Trees.{Tree, Item}
+use Rattle.awk_grammar.specs.Trees as tree
 use Rattle.sem_scripts.specs.Kinds.{resolved}
 use Rattle.mid_program.specs.Scripts as scripts
 use Rattle.value_kinds.specs.Stores.{Global, Parameter, Result, Scalar, Store, Stored, Text, Value, is_number, script_stores}
@@ -29,10 +26,10 @@ n_plus_one = tree.Bin (tree.Add token.Plus) (tree.Var (codes "n")) (tree.Leaf (t
 
 -- BEGIN { while (n < 10) n = n + 1; print n }
 abbrev counted_up : List Item
-counted_up = (item.Begin (stmt.And (stmt.While (tree.Bin (tree.Other (token.Compare token.Less)) (tree.Var (codes "n"))
+counted_up = (tree.Begin (tree.And (tree.While (tree.Bin (tree.Other (token.Compare token.Less)) (tree.Var (codes "n"))
     (tree.Leaf (token.Number (codes "10"))))
-    (stmt.Simple (stmt.Eval (tree.Bin (tree.Other (token.Assign token.Set)) (tree.Var (codes "n")) n_plus_one))))
-    (stmt.And (stmt.Simple (stmt.Put stmt.Print (stmt.Listed (tree.Then (tree.Var (codes "n")) tree.NoTree)) stmt.NoTarget)) stmt.NoStmt))) ∷ []
+    (tree.Simple (tree.Eval (tree.Bin (tree.Other (token.Assign token.Set)) (tree.Var (codes "n")) n_plus_one))))
+    (tree.And (tree.Simple (tree.Put tree.Print (tree.Listed (tree.Then (tree.Var (codes "n")) tree.NoTree)) tree.NoTarget)) tree.NoStmt))) ∷ []
 
 -- a sum
 pub sum_is_stored : script_stores (resolved counted_up) ≡ stored_in (Global 0) (Value n_plus_one) ∷ []
@@ -45,9 +42,9 @@ sum_is_a_number = All-from_recursion (Says (Global 0)) (script_stores (resolved 
 
 -- { n++; s += $1 }
 abbrev counted_and_added : List Item
-counted_and_added = (item.Always (stmt.And (stmt.Simple (stmt.Eval (tree.Post token.Increment (tree.Var (codes "n")))))
-    (stmt.And (stmt.Simple (stmt.Eval (tree.Bin (tree.Other (token.Assign (token.SetSum token.Plus))) (tree.Var (codes "s"))
-    (tree.Field (tree.Leaf (token.Number (codes "1"))))))) stmt.NoStmt))) ∷ []
+counted_and_added = (tree.Always (tree.And (tree.Simple (tree.Eval (tree.Post token.Increment (tree.Var (codes "n")))))
+    (tree.And (tree.Simple (tree.Eval (tree.Bin (tree.Other (token.Assign (token.SetSum token.Plus))) (tree.Var (codes "s"))
+    (tree.Field (tree.Leaf (token.Number (codes "1"))))))) tree.NoStmt))) ∷ []
 
 -- results of steps and of arithmetic, whatever the operand is
 pub results_are_stored : script_stores (resolved counted_and_added) ≡ stored_in (Global 0) Result ∷ (stored_in (Global 1) Result ∷ [])
@@ -56,12 +53,12 @@ results_are_stored = refl
 
 -- { s = $1; n = s; getline t; for (k in a) length(t) }
 abbrev texts_of_all_kinds : List Item
-texts_of_all_kinds = (item.Always (stmt.And (stmt.Simple
-    (stmt.Eval (tree.Bin (tree.Other (token.Assign token.Set)) (tree.Var (codes "s")) (tree.Field (tree.Leaf (token.Number (codes "1")))))))
-    (stmt.And (stmt.Simple (stmt.Eval (tree.Bin (tree.Other (token.Assign token.Set)) (tree.Var (codes "n")) (tree.Var (codes "s")))))
-    (stmt.And (stmt.Simple (stmt.Eval (tree.GetInto (tree.Var (codes "t")))))
-    (stmt.And (stmt.ForIn (codes "k") (codes "a")
-    (stmt.Simple (stmt.Eval (tree.Apply builtin.Length (tree.Then (tree.Var (codes "t")) tree.NoTree))))) stmt.NoStmt))))) ∷ []
+texts_of_all_kinds = (tree.Always (tree.And (tree.Simple
+    (tree.Eval (tree.Bin (tree.Other (token.Assign token.Set)) (tree.Var (codes "s")) (tree.Field (tree.Leaf (token.Number (codes "1")))))))
+    (tree.And (tree.Simple (tree.Eval (tree.Bin (tree.Other (token.Assign token.Set)) (tree.Var (codes "n")) (tree.Var (codes "s")))))
+    (tree.And (tree.Simple (tree.Eval (tree.GetInto (tree.Var (codes "t")))))
+    (tree.And (tree.ForIn (codes "k") (codes "a")
+    (tree.Simple (tree.Eval (tree.Apply builtin.Length (tree.Then (tree.Var (codes "t")) tree.NoTree))))) tree.NoStmt))))) ∷ []
 
 -- what a field holds, a name's value, a record that was read and a key: none is surely a number
 pub texts_are_stored : script_stores (resolved texts_of_all_kinds) ≡

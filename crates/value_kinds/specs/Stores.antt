@@ -3,12 +3,9 @@ use Rattle.std.specs.Prelude.{ℕ, suc, Bool, true, false, ◌&&◌, List, [], �
 use Rattle.awk_tokens.specs.declared.reserved_words.Builtin.{Builtin}
 use Rattle.awk_tokens.specs.declared.reserved_words.Builtin.TheVariants as builtin
 use Rattle.awk_grammar.specs.Token.{Assign, Assigning, Ere, Number, Quoted, Set}
-use Rattle.awk_grammar.specs.Tree.{Bin, Call, Cond, Field, Get, GetFrom, GetInto, GetIntoFrom, Group, Has, HasList, Index, Join, Leaf, Length, NoTree, Other, Post, Pre, Then, Tree, Trees, Unary, Var, suits}
-use Rattle.awk_grammar.specs.Tree as tree
-use Rattle.awk_grammar.specs.Stmt.{And, Clear, Delete, Eval, NoStmt, Plain, Put, Stmt, Stmts}
-use Rattle.awk_grammar.specs.Stmt as stmt
-use Rattle.awk_grammar.specs.Item.{Item, Pattern}
-use Rattle.awk_grammar.specs.Item as item
+use Rattle.awk_grammar.specs.Tree.{suits}
+use Rattle.awk_grammar.specs.Trees.{Bin, Call, Cond, Field, Get, GetFrom, GetInto, GetIntoFrom, Group, Has, HasList, Index, Join, Leaf, Length, NoTree, Other, Post, Pre, Then, Tree, Trees, Unary, Var, And, Clear, Delete, Eval, NoStmt, Plain, Put, Stmt, Stmts, Item, Pattern}
+use Rattle.awk_grammar.specs.Trees as tree
 use Rattle.sem_scripts.specs.Items.{top}
 use Rattle.sem_scripts.specs.Names.{Function, Resolved, Scope, Variable, function_number, functions_length, variable_of}
 use Rattle.sem_scripts.specs.Names as names
@@ -163,34 +160,34 @@ module _ (g : ℕ) (scope : Scope) where
 
   abbrev mutual
     pub stmt_stores : Stmt → List Store
-    stmt_stores (stmt.Block ss) = stmts_stores ss
-    stmt_stores stmt.Empty = []
-    stmt_stores (stmt.Simple p) = plain_stores p
-    stmt_stores (stmt.If c s) = stores c ++ stmt_stores s
-    stmt_stores (stmt.IfElse c s t) = stores c ++ (stmt_stores s ++ stmt_stores t)
-    stmt_stores (stmt.While c s) = stores c ++ stmt_stores s
-    stmt_stores (stmt.Do s c) = stmt_stores s ++ stores c
-    stmt_stores (stmt.For i c p s) = maybe_plain_stores i ++ (maybe_stores c ++ (maybe_plain_stores p ++ stmt_stores s))
-    stmt_stores (stmt.ForIn k a s) = into (Var k) Text ++ stmt_stores s
-    stmt_stores (stmt.Jumping j) = []
-    stmt_stores (stmt.Leave l t) = maybe_stores t
+    stmt_stores (tree.Block ss) = stmts_stores ss
+    stmt_stores tree.Empty = []
+    stmt_stores (tree.Simple p) = plain_stores p
+    stmt_stores (tree.If c s) = stores c ++ stmt_stores s
+    stmt_stores (tree.IfElse c s t) = stores c ++ (stmt_stores s ++ stmt_stores t)
+    stmt_stores (tree.While c s) = stores c ++ stmt_stores s
+    stmt_stores (tree.Do s c) = stmt_stores s ++ stores c
+    stmt_stores (tree.For i c p s) = maybe_plain_stores i ++ (maybe_stores c ++ (maybe_plain_stores p ++ stmt_stores s))
+    stmt_stores (tree.ForIn k a s) = into (Var k) Text ++ stmt_stores s
+    stmt_stores (tree.Jumping j) = []
+    stmt_stores (tree.Leave l t) = maybe_stores t
 
     pub stmts_stores : Stmts → List Store
     stmts_stores NoStmt = []
     stmts_stores (And s ss) = stmt_stores s ++ stmts_stores ss
 
   abbrev pub pattern_stores : Pattern → List Store
-  pattern_stores (item.One t) = stores t
-  pattern_stores (item.Between t u) = stores t ++ stores u
+  pattern_stores (tree.One t) = stores t
+  pattern_stores (tree.Between t u) = stores t ++ stores u
 
   abbrev pub item_stores : Item → List Store
-  item_stores (item.Function f ps ss) = []
-  item_stores (item.Begin ss) = stmts_stores ss
-  item_stores (item.End ss) = stmts_stores ss
-  item_stores (item.Always ss) = stmts_stores ss
-  item_stores (item.When p ss) = pattern_stores p ++ stmts_stores ss
-  item_stores (item.Lone p) = pattern_stores p
-  item_stores item.Nothing = []
+  item_stores (tree.Function f ps ss) = []
+  item_stores (tree.Begin ss) = stmts_stores ss
+  item_stores (tree.End ss) = stmts_stores ss
+  item_stores (tree.Always ss) = stmts_stores ss
+  item_stores (tree.When p ss) = pattern_stores p ++ stmts_stores ss
+  item_stores (tree.Lone p) = pattern_stores p
+  item_stores tree.Nothing = []
 
   abbrev pub items_stores : List Item → List Store
   items_stores [] = []

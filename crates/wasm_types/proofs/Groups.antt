@@ -9,7 +9,8 @@ use Rattle.std.specs.Prelude.{◌||◌, ◌&&◌}
 use Rattle.std.proofs.Math.Nat.{pow-suc}
 use Rattle.std.proofs.lemmas.List.{take_at}
 use Rattle.std.proofs.lemmas.Bool.{lt-ltb, le-ltb, ltb-true, ltb-false, leb-true, leb-false, le-leb, lt-leb, cases_lt}
-use Rattle.wasm_types.specs.Leb128.{IsRaw, IsUnsigned, IsSigned, Extends, and_then, raw_at, unsigned_of, unsigned_at, signed_of, signed_at, unsigned_text, signed_text, u32_at, s32_at, s64_at, u32_text, s32_text, s64_text, IsU32, IsS32, IsS64}
+use Rattle.wasm_types.specs.Leb128.{IsRaw, IsUnsigned, IsSigned, Extends, IsU32, IsS32, IsS64}
+use Rattle.wasm_types.specs.Leb128Texts.{and_then, raw_at, unsigned_of, unsigned_at, signed_of, signed_at, unsigned_text, signed_text, u32_at, s32_at, s64_at, u32_text, s32_text, s64_text}
 
 pub chosen : {A : Type 0} (b : Bool) (x y z : A) → cond b x y ≡ z → ((b ≡ true) × (x ≡ z)) ⊎ ((b ≡ false) × (y ≡ z))
 chosen true x y z e = inl (refl, e)

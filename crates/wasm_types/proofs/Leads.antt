@@ -13,7 +13,7 @@ use Rattle.wasm_types.specs.declared.instr.Simple.TheVariants as simple
 use Rattle.wasm_types.specs.declared.opcodes.IndexOp.TheVariants.{Br, BrIf, Call, LocalGet, LocalSet, LocalTee, GlobalGet, GlobalSet}
 use Rattle.wasm_types.specs.declared.opcodes.Lead.{Lead}
 use Rattle.wasm_types.specs.declared.opcodes.Lead.TheVariants as lead
-use Rattle.wasm_types.specs.Opcodes.{code, lead_at, IsLead, IsBare}
+use Rattle.wasm_types.specs.Leads.{code, lead_at, IsLead, IsBare}
 
 bare_again : (p : Simple) → IsBare p → lead_at (code (lead.Bare p)) ≡ lead.Bare p
 unfolding lead_at

@@ -2,14 +2,15 @@
 use Rattle.std.specs.Prelude.{◌≡◌, ◌^◌, [], ◌∷◌, Some, None, refl}
 use Rattle.std.specs.Int.{cast_unsigned, w32}
 use Rattle.std.specs.Prelude.{negsuc}
-use Rattle.wasm_types.specs.Leb128.{unsigned_at, signed_at, unsigned_text, signed_text}
+use Rattle.wasm_types.specs.Leb128Texts.{unsigned_at, signed_at, unsigned_text, signed_text}
 use Rattle.wasm_types.specs.declared.instr.Simple.TheVariants as simple
 use Rattle.wasm_types.specs.declared.instr.IBinOp.TheVariants.{Add}
 use Rattle.wasm_types.specs.declared.instr.CvtOp.TheVariants.{I64Extend32S}
 use Rattle.wasm_types.specs.declared.opcodes.Lead.TheVariants as lead
 use Rattle.wasm_types.specs.declared.types.ValType.TheVariants.{I32, I64}
 use Rattle.wasm_types.specs.Runs.{expanded_from}
-use Rattle.wasm_types.specs.Opcodes.{opcode, lead_at}
+use Rattle.wasm_types.specs.Opcodes.{opcode}
+use Rattle.wasm_types.specs.Leads.{lead_at}
 
 three_bytes : unsigned_text 5 624485 ≡ 0xe5 ∷ 0x8e ∷ 0x26 ∷ []
 three_bytes = refl

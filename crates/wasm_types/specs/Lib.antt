@@ -2,7 +2,9 @@ pub mod Syntax
 pub mod Runs
 pub mod View
 pub mod Opcodes
+pub mod Leads
 pub mod Leb128
+pub mod Leb128Texts
 pub mod Profile
 pub mod Instructions
 pub mod ModuleGrammar

@@ -2,7 +2,8 @@
 
 ghost use Rattle.std.specs.Prelude.{◌≡◌, ℕ, ◌+◌, ◌*◌, ◌%◌, ◌^◌, ◌<◌, ◌≤◌, ◌++◌, List, length, take, Some, None, MatchOption, IfSome, IfOk, OnOk, OnErr};
 ghost use Rattle.std.specs.Int.{cast_unsigned, w32, w64};
-ghost use Rattle.wasm_types.specs.Leb128.{IsU32, IsS32, IsS64, u32_at, s32_at, s64_at, u32_text, s32_text, s64_text, IsRead, IsReadAs, raw_at, unsigned_at, signed_at, unsigned_text, signed_text};
+ghost use Rattle.wasm_types.specs.Leb128.{IsU32, IsS32, IsS64};
+ghost use Rattle.wasm_types.specs.Leb128Texts.{u32_at, s32_at, s64_at, u32_text, s32_text, s64_text, IsRead, IsReadAs, raw_at, unsigned_at, signed_at, unsigned_text, signed_text};
 
 use std::alloc::{AllocError, Global};
 
@@ -61,7 +62,7 @@ fn signed_at(bytes: &[u8], most: u8, half: u128) -> Option<(u128, &[u8])>
 }
 
 /// The unsigned integer of 32 bits at the front, and the bytes after it; `None` where there is none.
-#[tactic(auto, unfolding(crate::specs::Leb128::u32_at))]
+#[tactic(auto, unfolding(crate::specs::Leb128Texts::u32_at))]
 pub fn take_u32(bytes: &[u8]) -> Option<(u32, &[u8])>
     ensures found { MatchOption result (u32_at bytes.now ≡ None)
         (λ x. u32_at bytes.now ≡ Some (x.0, x.1.now)) }
@@ -72,7 +73,7 @@ pub fn take_u32(bytes: &[u8]) -> Option<(u32, &[u8])>
 }
 
 /// The signed integer of 32 bits at the front as its bit pattern, and the bytes after it; `None` where there is none.
-#[tactic(auto, unfolding(crate::specs::Leb128::s32_at))]
+#[tactic(auto, unfolding(crate::specs::Leb128Texts::s32_at))]
 pub fn take_s32(bytes: &[u8]) -> Option<(u32, &[u8])>
     ensures found { MatchOption result (s32_at bytes.now ≡ None)
         (λ x. s32_at bytes.now ≡ Some (x.0, x.1.now)) }
@@ -83,7 +84,7 @@ pub fn take_s32(bytes: &[u8]) -> Option<(u32, &[u8])>
 }
 
 /// The signed integer of 64 bits at the front as its bit pattern, and the bytes after it; `None` where there is none.
-#[tactic(auto, unfolding(crate::specs::Leb128::s64_at))]
+#[tactic(auto, unfolding(crate::specs::Leb128Texts::s64_at))]
 pub fn take_s64(bytes: &[u8]) -> Option<(u64, &[u8])>
     ensures found { MatchOption result (s64_at bytes.now ≡ None)
         (λ x. s64_at bytes.now ≡ Some (x.0, x.1.now)) }
@@ -177,7 +178,7 @@ fn push_signed(out: &mut Vec<u8>, most: u8, half: u128, n: u128) -> Result<(), A
 }
 
 /// Appends the shortest form of an unsigned integer, or leaves the vector as it was.
-#[tactic(auto, unfolding(crate::specs::Leb128::u32_text))]
+#[tactic(auto, unfolding(crate::specs::Leb128Texts::u32_text))]
 pub fn push_u32(out: &mut Vec<u8>, n: u32) -> Result<(), AllocError>
     ensures done { OnOk result (out.new.items ≡ out.old.items ++ u32_text n) }
     ensures undone { OnErr result (out.new.items ≡ out.old.items) }
@@ -186,7 +187,7 @@ pub fn push_u32(out: &mut Vec<u8>, n: u32) -> Result<(), AllocError>
 }
 
 /// Appends the shortest form of the signed integer of 32 bits with this bit pattern, or leaves the vector as it was.
-#[tactic(auto, unfolding(crate::specs::Leb128::s32_text))]
+#[tactic(auto, unfolding(crate::specs::Leb128Texts::s32_text))]
 pub fn push_s32(out: &mut Vec<u8>, n: u32) -> Result<(), AllocError>
     ensures done { OnOk result (out.new.items ≡ out.old.items ++ s32_text n) }
     ensures undone { OnErr result (out.new.items ≡ out.old.items) }
@@ -195,7 +196,7 @@ pub fn push_s32(out: &mut Vec<u8>, n: u32) -> Result<(), AllocError>
 }
 
 /// Appends the shortest form of the signed integer of 64 bits with this bit pattern, or leaves the vector as it was.
-#[tactic(auto, unfolding(crate::specs::Leb128::s64_text))]
+#[tactic(auto, unfolding(crate::specs::Leb128Texts::s64_text))]
 pub fn push_s64(out: &mut Vec<u8>, n: u64) -> Result<(), AllocError>
     ensures done { OnOk result (out.new.items ≡ out.old.items ++ s64_text n) }
     ensures undone { OnErr result (out.new.items ≡ out.old.items) }

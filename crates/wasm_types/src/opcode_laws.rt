@@ -2,7 +2,7 @@
 
 ghost use Rattle.std.specs.Prelude.{◌≡◌, ℕ, ◌++◌, List};
 ghost use Rattle.wasm_types.specs.declared.opcodes.Lead.{Lead};
-ghost use Rattle.wasm_types.specs.Opcodes.{code, IsLead, lead_at};
+ghost use Rattle.wasm_types.specs.Leads.{code, IsLead, lead_at};
 ghost use Rattle.wasm_types.specs.Leb128.{IsUnsigned, IsSigned};
 
 /// What an opcode begins is found by it, and no two have the same opcode.

@@ -1,7 +1,8 @@
 //! Opcodes (Core 1.0, section 5.4), both ways.
 
 ghost use Rattle.std.specs.Prelude.{◌≡◌};
-ghost use Rattle.wasm_types.specs.Opcodes.{opcode, lead_at, is_float, find_lead, control_leads, memory_leads, i32_leads, i64_leads, convert_leads, indexed, test_opcode, compare_opcode, unary_opcode, binary_opcode, convert_opcode, load_opcode, store_opcode};
+ghost use Rattle.wasm_types.specs.Opcodes.{opcode, test_opcode, compare_opcode, unary_opcode, binary_opcode, convert_opcode, load_opcode, store_opcode};
+ghost use Rattle.wasm_types.specs.Leads.{lead_at, is_float, find_lead, control_leads, memory_leads, i32_leads, i64_leads, convert_leads, indexed};
 ghost use Rattle.wasm_types.specs.declared.opcodes.Lead.TheVariants.{Unknown};
 
 use crate::instr::{CvtOp, IBinOp, IRelOp, ITestOp, IUnOp, LoadOp, Simple, StoreOp};
@@ -385,7 +386,7 @@ fn convert_of(byte: u8) -> Lead
 }
 
 /// What the byte begins.
-#[tactic(auto, unfolding(crate::specs::Opcodes::lead_at))]
+#[tactic(auto, unfolding(crate::specs::Leads::lead_at))]
 pub fn lead_of(byte: u8) -> Lead
     ensures { result ≡ lead_at byte }
 {

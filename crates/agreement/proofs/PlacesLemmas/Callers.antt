@@ -1,5 +1,6 @@
 -- Callers that wait have few operands pending: the place of the call in the code of a function says how many, and these are few.
 use Rattle.std.proofs.Common.{◌≡◌, ℕ, zero, suc, ◌+◌, ◌≤◌, true, List, [], ◌∷◌, ◌++◌, length, map, get_or, slice_get, Option, Some, ap, ◌∙◌, subst, arith}
+use Rattle.std.proofs.lemmas.Bool.{leb-true}
 use Rattle.std.proofs.lemmas.Option.{none-some, slice_get-get_or}
 use Rattle.sem_primitives.specs.declared.sorts.Sort.{Sort}
 use Rattle.wasm_model.specs.Machines.{CallerForm, Conf}
@@ -53,7 +54,7 @@ module _ (p : Program) where
         let k = w.is_function.0 in
         let n = get_or limits k 0 in
         let there : slice_get (all_callees p) k ≡ Some w.function = slice_get-get_or (all_callees p) k w.function w.is_function.1 ∙ ap Some w.is_function.2 in
-        let within : answers_to w.place ≤ suc (length w.function.kinds) + (n + n) = call_within (limit_of w.function n) w.function.body w.place w.called w.is_place (fit_at limits (all_callees p) k w.function fit there) in
+        let within : answers_to w.place ≤ suc (length w.function.kinds) + (n + n) = leb-true (answers_to w.place) (suc (length w.function.kinds) + (n + n)) (call_within (limit_of w.function n) w.function.body w.place w.called w.is_place (fit_at limits (all_callees p) k w.function fit there)) in
         let same : answers_to r.frame.code ≡ answers_to w.place = ap answers_to w.at_place ∙ answers_same (called_imports p) w.place in
         let to = w.answer_to in
         record { number = k; is_number = there; few = omega (arith, within, same, to) }

@@ -17,6 +17,7 @@ use Rattle.wasm_model.specs.declared.ends.End.TheVariants as ends
 use Rattle.host_step.specs.HostState.{HostState, Names}
 use Rattle.host_step.specs.Starts.{state_in}
 use Rattle.mid_program.specs.Mid.{Kind, Program}
+use Rattle.mid_program.specs.Sorted.{IsSorted}
 use Rattle.sem_scripts.specs.ScriptRun.{Setting, setting_in}
 use Rattle.lower_model.specs.Cells.{Cell, globals_by, iterators_in, marks_fit, tidy_locals, tidy_name}
 use Rattle.lower_model.specs.Functions.{main_callee}
@@ -176,9 +177,9 @@ module _ (p : Program) where
   abbrev FitsAt : ℕ → ℕ → Conf → Type 0
   FitsAt instructions places P = Fits u instructions places (length (globals_of p)) (OfFunction p) P
 
-  begins_as : (P : Conf) (c : real.Conf) (s : HostState) (instructions places : ℕ) → AsThere P c s → FitsAt instructions places P →
+  begins_as : IsSorted p → (P : Conf) (c : real.Conf) (s : HostState) (instructions places : ℕ) → AsThere P c s → FitsAt instructions places P →
       Stands u (Contains (all_callees p)) (λ f. f ≡ main_callee p) P → (step u P ≡ Stuck → ⊥) → AreTables s.names → begins_statement c.frame.code ≡ true → AtStatement p c s
-  begins_as (Run ks vs K L F code G) c s instructions places a fits stands alive tables e =
+  begins_as well (Run ks vs K L F code G) c s instructions places a fits stands alive tables e =
       let same = begins_same (called_imports p) code in
       let begins : begins_statement code ≡ true = sym same ∙ ap begins_statement (sym a.code-is.same ∙ settled_nop c.frame.code e) ∙ e in
       let tidy-is = tidy_there u ks vs K L F code G begins alive in
@@ -188,13 +189,13 @@ module _ (p : Program) where
       let no_more = no_words (arrays_made G.host) s.names vs ws none a.operands in
       let here = subst (λ (z : List Cell). RunAs (stays p) (called_imports p) u z K L F code G ws (settled_code c.frame.code) c s × TidyAt ks z K L G) none (a, tidy-is) in
       at_statement ks K L F code G ws (settled_code c.frame.code) c s here.0 (sym (operands_nop c.frame.values c.frame.code e) ∙ no_more) here.1 (stands.0.function, stands.0.is, stands.0.kinds) (stands_at stands.0.function.body code stands.0.code begins) (sym (settled_nop c.frame.code e) ∙ a.code-is.same)
-      (callers_wait p u refl instructions places (length (globals_of p)) (arrays_made G.host) s.names stands.0.function F c.callers a.rest.callers fits.1.frames stands.1)
-      (each_called p u refl instructions places (length (globals_of p)) (arrays_made G.host) s.names stands.0.function F c.callers a.rest.callers fits.1.frames stands.1) tables
-  begins_as (Look x ks vs K L F code G) c s instructions places a fits stands alive tables e =
+      (callers_wait p well u refl instructions places (length (globals_of p)) (arrays_made G.host) s.names stands.0.function F c.callers a.rest.callers fits.1.frames stands.1)
+      (each_called p well u refl instructions places (length (globals_of p)) (arrays_made G.host) s.names stands.0.function F c.callers a.rest.callers fits.1.frames stands.1) tables
+  begins_as well (Look x ks vs K L F code G) c s instructions places a fits stands alive tables e =
       absurd (no_look u x ks vs K L F code G (sym (begins_same (called_imports p) code) ∙ ap begins_statement (sym a.run.code-is.same) ∙ e) alive)
-  begins_as (Over v G) c s instructions places a fits stands alive tables e = let h : false ≡ true = sym (ap (λ (f : FrameForm). begins_statement f.code) a.frame) ∙ e in cc
-  begins_as (Deep G) c s instructions places a fits stands alive tables e = absurd a
-  begins_as Stuck c s instructions places a fits stands alive tables e = absurd (alive refl)
+  begins_as well (Over v G) c s instructions places a fits stands alive tables e = let h : false ≡ true = sym (ap (λ (f : FrameForm). begins_statement f.code) a.frame) ∙ e in cc
+  begins_as well (Deep G) c s instructions places a fits stands alive tables e = absurd a
+  begins_as well Stuck c s instructions places a fits stands alive tables e = absurd (alive refl)
 
   abbrev ReturnsFrom : real.Conf → ℕ → Type 0
   ReturnsFrom c n = turn (program p) c ≡ Ends (ends.Returned (Some (I32 n)))
@@ -247,12 +248,12 @@ module _ (p : Program) where
         steps_as (linked p) arrays_grow n (begun p set) (in_main p) start reached.output c s (begun_as p set 9999)
         (subst (λ (z : ProgramForm). Steps table_meaning z n (in_main p) start reached.output c s) (program_is p m reached.is_new) later)
 
-    pub statement : begins_statement c.frame.code ≡ true → AtStatement p c s
-    statement e = by reached.steps reached.taken
+    pub statement : IsSorted p → begins_statement c.frame.code ≡ true → AtStatement p c s
+    statement well e = by reached.steps reached.taken
       where
         by : (n : ℕ) → Steps table_meaning m.program n m.conf start reached.output c s → AtStatement p c s
         by zero t = let h : false ≡ true = sym (ap (λ (z : real.Conf). begins_statement z.frame.code) (t.0 ∙ reached.is_new.conf)) ∙ e in cc
-        by (suc n) t = begins_as (place n) c s sizes.1 sizes.0 (there_as n t) (fits n) (stands_on p set n) (alive n) tables e
+        by (suc n) t = begins_as well (place n) c s sizes.1 sizes.0 (there_as n t) (fits n) (stands_on p set n) (alive n) tables e
 
     pub returned : (n : ℕ) → turn m.program c ≡ Ends (ends.Returned (Some (I32 n))) → AtReturn p c s
     returned w e = by reached.steps reached.taken

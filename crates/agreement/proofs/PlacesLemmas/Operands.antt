@@ -5,12 +5,8 @@ use Rattle.awk_tokens.specs.declared.reserved_words.Builtin.{Builtin}
 use Rattle.awk_tokens.specs.declared.reserved_words.Builtin.TheVariants as builtin
 use Rattle.awk_grammar.specs.Token.{Matching, Matches, Differs, Plus, Minus, Not, Signed, Over as Divided, Assigning, Set as Put_, SetSum, SetProduct, SetPower, Assign, Or, And as Both, Match, Compare as Compared, Mul, Pow, Number as Numeral, Quoted, Ere}
 use Rattle.awk_grammar.specs.Token as token
-use Rattle.awk_grammar.specs.Tree as tree
-use Rattle.awk_grammar.specs.Tree.{Tree, Leaf, Length, Var, Index, Field, Group, Apply, Unary, Pre, Post, Bin, Join, Add, Other, Has, HasList, Cond, GetInto, GetFrom, GetIntoFrom, Trees, NoTree}
-use Rattle.awk_grammar.specs.Stmt as stmt
-use Rattle.awk_grammar.specs.Stmt.{Args, NoArgs, Listed, Enclosed, Target, NoTarget, Written, Appended, Plain, Eval, Put, Delete, Clear, Stmt, Stmts, NoStmt, And}
-use Rattle.awk_grammar.specs.Item as item
-use Rattle.awk_grammar.specs.Item.{Item, Pattern, One, Between}
+use Rattle.awk_grammar.specs.Trees as tree
+use Rattle.awk_grammar.specs.Trees.{Tree, Leaf, Length, Var, Index, Field, Group, Apply, Unary, Pre, Post, Bin, Join, Add, Other, Has, HasList, Cond, GetInto, GetFrom, GetIntoFrom, Trees, NoTree, Args, NoArgs, Listed, Enclosed, Target, NoTarget, Written, Appended, Plain, Eval, Put, Delete, Clear, Stmt, Stmts, NoStmt, And, Item, Pattern, One, Between}
 use Rattle.mid_program.specs.declared.mid.Operation.{Operation}
 use Rattle.sem_scripts.specs.Names as names
 use Rattle.sem_scripts.specs.Names.{Function, Name, Resolved, Reserved, Scope, Variable, function_at, function_number, is_array, variable_of}
@@ -277,24 +273,24 @@ module _ (m : ℕ) (texts : List (List ℕ)) (scope : Scope) where
     unfolding step_code steps_code
 
     step_few : (s : Stmt) → stmt_nodes s ≤ m → StepFew m (step_code texts scope s)
-    step_few (stmt.Block ss) h = steps_few ss h
-    step_few stmt.Empty h = tt
-    step_few (stmt.Simple p) h = plain_few p h
-    step_few (stmt.If e s) h = (code_few e zero (omega (arith, h)), (step_few s (omega (arith, h)), tt))
-    step_few (stmt.IfElse e s u) h = (code_few e zero (omega (arith, h)), (step_few s (omega (arith, h)), step_few u (omega (arith, h))))
-    step_few (stmt.While e s) h = (code_few e zero (omega (arith, h)), (step_few s (omega (arith, h)), tt))
-    step_few (stmt.Do s e) h = (code_few e zero (omega (arith, h)), (step_few s (omega (arith, h)), tt))
-    step_few (stmt.For i e p s) h =
+    step_few (tree.Block ss) h = steps_few ss h
+    step_few tree.Empty h = tt
+    step_few (tree.Simple p) h = plain_few p h
+    step_few (tree.If e s) h = (code_few e zero (omega (arith, h)), (step_few s (omega (arith, h)), tt))
+    step_few (tree.IfElse e s u) h = (code_few e zero (omega (arith, h)), (step_few s (omega (arith, h)), step_few u (omega (arith, h))))
+    step_few (tree.While e s) h = (code_few e zero (omega (arith, h)), (step_few s (omega (arith, h)), tt))
+    step_few (tree.Do s e) h = (code_few e zero (omega (arith, h)), (step_few s (omega (arith, h)), tt))
+    step_few (tree.For i e p s) h =
         (maybe_plain_few i (omega (arith, h)), ((maybe_test_few e (omega (arith, h)), (step_few s (omega (arith, h)), maybe_plain_few p (omega (arith, h)))), tt))
-    step_few (stmt.ForIn k a s) h = (store_variable_few m (variable_of scope k) 1 (Bound true 0) tt, step_few s h)
-    step_few (stmt.Jumping stmt.Break) h = tt
-    step_few (stmt.Jumping stmt.Continue) h = tt
-    step_few (stmt.Jumping stmt.Next) h = tt
-    step_few (stmt.Jumping stmt.NextFile) h = (tt, (tt, tt))
-    step_few (stmt.Leave stmt.Exit None) h = tt
-    step_few (stmt.Leave stmt.Exit (Some x)) h = code_few x zero (omega (arith, h))
-    step_few (stmt.Leave stmt.Return None) h = tt
-    step_few (stmt.Leave stmt.Return (Some x)) h = code_few x zero (omega (arith, h))
+    step_few (tree.ForIn k a s) h = (store_variable_few m (variable_of scope k) 1 (Bound true 0) tt, step_few s h)
+    step_few (tree.Jumping tree.Break) h = tt
+    step_few (tree.Jumping tree.Continue) h = tt
+    step_few (tree.Jumping tree.Next) h = tt
+    step_few (tree.Jumping tree.NextFile) h = (tt, (tt, tt))
+    step_few (tree.Leave tree.Exit None) h = tt
+    step_few (tree.Leave tree.Exit (Some x)) h = code_few x zero (omega (arith, h))
+    step_few (tree.Leave tree.Return None) h = tt
+    step_few (tree.Leave tree.Return (Some x)) h = code_few x zero (omega (arith, h))
 
     pub steps_few : (ss : Stmts) → stmts_nodes ss ≤ m → StepsFew m (steps_code texts scope ss)
     steps_few NoStmt h = tt
@@ -313,33 +309,33 @@ module _ (m : ℕ) (texts : List (List ℕ)) (scope : Scope) where
 
   items_few : (i : ℕ) (is : List Item) → items_nodes is ≤ m → StepsFew m (items_code texts scope i is)
   items_few i [] h = tt
-  items_few i (item.Function f ps ss ∷ is) h = items_few i is (omega (arith, h))
-  items_few i (item.Begin ss ∷ is) h = items_few i is (omega (arith, h))
-  items_few i (item.End ss ∷ is) h = items_few i is (omega (arith, h))
-  items_few i (item.Always ss ∷ is) h = (steps_few ss (omega (arith, h)), items_few i is (omega (arith, h)))
-  items_few i (item.When p ss ∷ is) h = (where_few i p (mid.Block (steps_code texts scope ss)) (omega (arith, h)) (steps_few ss (omega (arith, h))), items_few (pattern_ranges p + i) is (omega (arith, h)))
-  items_few i (item.Lone p ∷ is) h = (where_few i p (mid.Block (steps_code texts scope print_record)) (omega (arith, h)) record_few, items_few (pattern_ranges p + i) is (omega (arith, h)))
-  items_few i (item.Nothing ∷ is) h = items_few i is (omega (arith, h))
+  items_few i (tree.Function f ps ss ∷ is) h = items_few i is (omega (arith, h))
+  items_few i (tree.Begin ss ∷ is) h = items_few i is (omega (arith, h))
+  items_few i (tree.End ss ∷ is) h = items_few i is (omega (arith, h))
+  items_few i (tree.Always ss ∷ is) h = (steps_few ss (omega (arith, h)), items_few i is (omega (arith, h)))
+  items_few i (tree.When p ss ∷ is) h = (where_few i p (mid.Block (steps_code texts scope ss)) (omega (arith, h)) (steps_few ss (omega (arith, h))), items_few (pattern_ranges p + i) is (omega (arith, h)))
+  items_few i (tree.Lone p ∷ is) h = (where_few i p (mid.Block (steps_code texts scope print_record)) (omega (arith, h)) record_few, items_few (pattern_ranges p + i) is (omega (arith, h)))
+  items_few i (tree.Nothing ∷ is) h = items_few i is (omega (arith, h))
 
   begin_few : (is : List Item) → items_nodes is ≤ m → StepsFew m (begin_code texts scope is)
   begin_few [] h = tt
-  begin_few (item.Function f ps ss ∷ is) h = begin_few is (omega (arith, h))
-  begin_few (item.Begin ss ∷ is) h = (steps_few ss (omega (arith, h)), begin_few is (omega (arith, h)))
-  begin_few (item.End ss ∷ is) h = begin_few is (omega (arith, h))
-  begin_few (item.Always ss ∷ is) h = begin_few is (omega (arith, h))
-  begin_few (item.When p ss ∷ is) h = begin_few is (omega (arith, h))
-  begin_few (item.Lone p ∷ is) h = begin_few is (omega (arith, h))
-  begin_few (item.Nothing ∷ is) h = begin_few is (omega (arith, h))
+  begin_few (tree.Function f ps ss ∷ is) h = begin_few is (omega (arith, h))
+  begin_few (tree.Begin ss ∷ is) h = (steps_few ss (omega (arith, h)), begin_few is (omega (arith, h)))
+  begin_few (tree.End ss ∷ is) h = begin_few is (omega (arith, h))
+  begin_few (tree.Always ss ∷ is) h = begin_few is (omega (arith, h))
+  begin_few (tree.When p ss ∷ is) h = begin_few is (omega (arith, h))
+  begin_few (tree.Lone p ∷ is) h = begin_few is (omega (arith, h))
+  begin_few (tree.Nothing ∷ is) h = begin_few is (omega (arith, h))
 
   end_few : (is : List Item) → items_nodes is ≤ m → StepsFew m (end_code texts scope is)
   end_few [] h = tt
-  end_few (item.Function f ps ss ∷ is) h = end_few is (omega (arith, h))
-  end_few (item.Begin ss ∷ is) h = end_few is (omega (arith, h))
-  end_few (item.End ss ∷ is) h = (steps_few ss (omega (arith, h)), end_few is (omega (arith, h)))
-  end_few (item.Always ss ∷ is) h = end_few is (omega (arith, h))
-  end_few (item.When p ss ∷ is) h = end_few is (omega (arith, h))
-  end_few (item.Lone p ∷ is) h = end_few is (omega (arith, h))
-  end_few (item.Nothing ∷ is) h = end_few is (omega (arith, h))
+  end_few (tree.Function f ps ss ∷ is) h = end_few is (omega (arith, h))
+  end_few (tree.Begin ss ∷ is) h = end_few is (omega (arith, h))
+  end_few (tree.End ss ∷ is) h = (steps_few ss (omega (arith, h)), end_few is (omega (arith, h)))
+  end_few (tree.Always ss ∷ is) h = end_few is (omega (arith, h))
+  end_few (tree.When p ss ∷ is) h = end_few is (omega (arith, h))
+  end_few (tree.Lone p ∷ is) h = end_few is (omega (arith, h))
+  end_few (tree.Nothing ∷ is) h = end_few is (omega (arith, h))
 
 routines_few : (texts : List (List ℕ)) (script : Resolved) (fs : List Function) → RoutinesFew (map (λ (f : Function). stmts_nodes f.body) fs) (map (routine_code texts script) fs)
 routines_few texts script [] = tt

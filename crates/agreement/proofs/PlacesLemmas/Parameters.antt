@@ -6,8 +6,7 @@ use Rattle.std.specs.Prelude.{if◌then◌else◌}
 use Rattle.std.proofs.lemmas.Bool.{ltb-false}
 use Rattle.std.proofs.lemmas.List.{length-map}
 use Rattle.std.proofs.lemmas.List.Elements.{All-from_recursion}
-use Rattle.awk_grammar.specs.Item.{Item}
-use Rattle.awk_grammar.specs.Stmt.{Stmts}
+use Rattle.awk_grammar.specs.Trees.{Item, Stmts}
 use Rattle.awk_grammar.specs.Kinds.{Function as Typed, Head, Key, Refusal, TooMany, functions_by, head_keys, heads, is_used_as, named, or_else, refusal, too_many}
 use Rattle.awk_grammar.specs.Marks.{Array, script_marks}
 use Rattle.sem_scripts.specs.Kinds.{bodies, resolved, with_bodies}

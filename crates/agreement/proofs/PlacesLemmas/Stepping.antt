@@ -1,5 +1,6 @@
 -- Where the places of functions are: one for each step, and one for the test of a `do` loop.
-use Rattle.std.proofs.Common.{◌≡◌, ℕ, zero, suc, ◌+◌, Bool, true, false, List, [], ◌∷◌, ◌++◌, length, refl, sym, ap, ap₂, ◌∙◌, subst, arith}
+use Rattle.std.proofs.Common.{◌≡◌, ℕ, zero, suc, ◌+◌, ◌≤◌, Bool, true, false, nat_le, List, [], ◌∷◌, ◌++◌, length, refl, sym, ap, ap₂, ◌∙◌, subst, arith}
+use Rattle.std.proofs.lemmas.Bool.{le-leb}
 use Rattle.std.proofs.lemmas.List.{append_assoc, append-nil, length-append}
 use Rattle.std.specs.Prelude.{if◌then◌else◌, Option, Some, None, is_some, ℤ}
 use Rattle.sem_primitives.specs.declared.sorts.Answer.TheVariants as answer
@@ -9,13 +10,13 @@ use Rattle.wasm_types.specs.Syntax.{Instruction, Plain, BrTable, Block, Loop as 
 use Rattle.wasm_types.specs.declared.instr.IBinOp.{IBinOp}
 use Rattle.wasm_types.specs.declared.instr.Simple.{Simple}
 use Rattle.wasm_types.specs.declared.instr.Simple.TheVariants.{Br, BrIf, Nop}
-use Rattle.mid_program.specs.Mid.{Kind, Boxed, Unboxed, ArrayKind, Parameter, Code, Get, Step, Eval, Block as Steps_, If as Either, Loop, Each, Break, Continue, Next, Exit, ExitWith, Return, Mark, Steps, NoStep, Then as AndThen, Program, Routine, Choose, Form, PrimitiveAnswer, NumberOrText, OptionalNumber, a_value, form_of}
+use Rattle.mid_program.specs.Mid.{Kind, Boxed, Unboxed, ArrayKind, Parameter, Code, Codes, Get, Step, Eval, Block as Steps_, If as Either, Loop, Each, Break, Continue, Next, Exit, ExitWith, Return, Mark, Steps, NoStep, Then as AndThen, Program, Routine, Choose, Form, PrimitiveAnswer, NumberOrText, OptionalNumber, a_value, form_of}
 use Rattle.sem_scripts.specs.Names.{ArrayName}
 use Rattle.lower_model.specs.Boundaries.{is_nop, nops_in, nops_of, step_places, steps_places}
-use Rattle.lower_model.specs.Emission.{Layout, field_at, tested}
+use Rattle.lower_model.specs.Emission.{Layout, field_at, function_number, tested}
 use Rattle.lower_model.specs.Functions.{layout_of, main_bases, main_callee, routine_bases, routine_callee}
 use Rattle.lower_model.specs.Noted.{routine_rest}
-use Rattle.lower_model.specs.Places.{Bases}
+use Rattle.lower_model.specs.Places.{Bases, handle_local, made_in}
 use Rattle.lower_model.specs.Quick.{Within, test_within, Source, Holder, OfName, OfParameter, Held, Constant, Sum, sum_names, sum_op, sum_in, Update, update_in, Tally, tally_in, Remainder, remainder_in, remainder_names, multiplied, Counted, counted_in, Pair, pair_names, pair_in, step_jumps, is_nothing}
 use Rattle.lower_model.specs.Small.{emit, emit_if}
 use Rattle.lower_model.specs.Statements.{name_numbered, source_numbered, source_taken, sum_kept, sum_taken, summed_anyway, both_asked, element_numbered, element_given, remainder_taken, remainder_dropped, barely_dropped, plainly_dropped, quickly_dropped, left_unless_counted, left_unless_pair, left_unless, all_emptied, arrays_emptied, arrays_swept, before_parts, block, first_part, goes_on, has_functions, iterator_left, iterators_emptied, iterators_swept, key_stored, left_by, left_swept, main_body, names_declared, names_made, parameters_dropped, part_done, record_done, records_read, routine_body, routines_declared, started, step_emitted, steps_emitted, swept, temporaries_emptied, temporaries_swept, answer_given, returned, name_put, counted_left}
@@ -23,19 +24,19 @@ use Rattle.lower_model.proofs.Tallies.{Shape, Updating, Following, Leading, tall
 use Rattle.lower_model.proofs.Updating.{added_is}
 use Rattle.agreement.specs.Places.Statements.{main_places, main_starts, routine_starts, starts_in, starts_of, step_starts, steps_starts}
 use Rattle.agreement.proofs.PlacesLemmas.Nops.{Nops, holder_nops, all_nops, source_nops, array_nops, asked_nops, choice, dropped_nops, emitted_nops, kept_code_nops, kept_number_nops, none, pending_nops, plain, rounds, tested_nops, to_number_nops, to_value_nops, whichever}
-use Rattle.agreement.proofs.PlacesLemmas.Pending.{Few, Limit, PartsFew, StepFew, StepsFew, calls_fit, limit_of}
+use Rattle.agreement.proofs.PlacesLemmas.Pending.{Limit, Meets, PartsFew, PartsMeet, StepMeets, StepsFew, StepsMeet, UpTo, calls_fit, last_local, limit_of}
 
 begun : {l : Limit} {k : Instructions} {m : List Instructions} → Nops l k m → Nops l (emit Nop k) (emit Nop k ∷ m)
-begun {k = k} r = record { are = ap (λ x. emit Nop k ∷ x) r.are; calls = r.calls }
+begun {k = k} r = record { are = ap (λ x. emit Nop k ∷ x) r.are; calls = r.calls; frees = r.frees }
 
 within : {l : Limit} {a k : Instructions} {p m : List Instructions} → Nops l a p → Nops l k m → Nops l (block a k) (p ++ m)
-within a r = let x = rounds a r in record { are = x.are; calls = x.calls }
+within a r = let x = rounds a r in record { are = x.are; calls = x.calls; frees = x.frees }
 
 branches : {l : Limit} {a c k : Instructions} {p q m : List Instructions} → Nops l a p → Nops l c q → Nops l k m → Nops l (emit_if a c k) ((p ++ q) ++ m)
-branches a c r = let x = rounds (rounds a c) r in record { are = ap₂ (λ x y. x ++ y) (ap₂ (λ x y. x ++ y) a.are c.are) r.are; calls = x.calls }
+branches a c r = let x = rounds (rounds a c) r in record { are = ap₂ (λ x y. x ++ y) (ap₂ (λ x y. x ++ y) a.are c.are) r.are; calls = x.calls; frees = x.frees }
 
 as_listed : {l : Limit} {k : Instructions} {m j : List Instructions} → Nops l k m → m ≡ j → Nops l k j
-as_listed r e = record { are = r.are ∙ e; calls = r.calls }
+as_listed r e = record { are = r.are ∙ e; calls = r.calls; frees = r.frees }
 
 -- nothing comes after
 alone : {l : Limit} {k : Instructions} {m : List Instructions} → Nops l k (m ++ []) → Nops l k m
@@ -54,37 +55,35 @@ none_or : {l : Limit} (j : Bool) {a c : Instructions} {q : List Instructions} �
 none_or true r q = r
 none_or false r q = q
 
--- what is added has no more operands under a call than the whole
-added_few : (most : ℕ) (e : Code) (q : Update) → update_in e ≡ Some q → Few most zero e → Few most zero q.added
-added_few most e q h lo = (subst (Few most zero) (added_is e q h).0 lo).0
+-- what is so of each call in the whole is so of each in what is added
+added_few : (G : (t f : ℕ) → Codes → Type 0) (e : Code) (q : Update) → update_in e ≡ Some q → Meets G zero e → Meets G zero q.added
+added_few G e q h lo = (subst (Meets G zero) (added_is e q h).0 lo).0
 
--- nor has a counter's key, and what is added after it
-tally_few : (most : ℕ) (i : Shape) (q : Tally) → IsAdded i q.added → Few most zero (tally_code i q) → Few most zero q.key × Few most 1 q.added
-tally_few most Updating q a lo = (lo.0, lo.1.0)
-tally_few most Following q a lo = (lo.0, subst (Few most 1) (sym a.1) tt)
-tally_few most Leading q a lo = (lo.0, subst (Few most 1) (sym a.1) tt)
+-- and in a counter's key, and what is added after it
+tally_few : (G : (t f : ℕ) → Codes → Type 0) (i : Shape) (q : Tally) → IsAdded i q.added → Meets G zero (tally_code i q) → Meets G zero q.key × Meets G 1 q.added
+tally_few G Updating q a lo = (lo.0, lo.1.0)
+tally_few G Following q a lo = (lo.0, subst (Meets G 1) (sym a.1) tt)
+tally_few G Leading q a lo = (lo.0, subst (Meets G 1) (sym a.1) tt)
 
-counter_few : (most : ℕ) (e : Code) (q : Tally) → tally_in e ≡ Some q → Few most zero e → Few most zero q.key × Few most 1 q.added
-counter_few most e q h lo = let t = tally_is e q h in tally_few most t.shape q t.added (subst (Few most zero) t.code lo)
+counter_few : (G : (t f : ℕ) → Codes → Type 0) (e : Code) (q : Tally) → tally_in e ≡ Some q → Meets G zero e → Meets G zero q.key × Meets G 1 q.added
+counter_few G e q h lo = let t = tally_is e q h in tally_few G t.shape q t.added (subst (Meets G zero) t.code lo)
 
-module _ (y : Layout) (asks : Bool) (most : ℕ) where
+module _ (y : Layout) (l : Limit) (G : (t f : ℕ) → Codes → Type 0)
+    (enough : (t f : ℕ) (es : Codes) → G t f es → l.allowed (function_number f) (handle_local y.bases t) (made_in es) ≡ true) where
   abbrev b : Bases
   b = y.bases
 
-  abbrev l : Limit
-  l = record { parameters = y.bases.parameters; asked = asks; most = most }
-
   module _ {k : Instructions} {m : List Instructions} where
-    key_nops : (u : ℕ) (e : Code) (d : ℕ) → (asks ≡ true → Few most 1 e) → Nops l k m → Nops l (key_stored y u e d k) m
+    key_nops : (u : ℕ) (e : Code) (d : ℕ) → (l.asked ≡ true → Meets G 1 e) → Nops l k m → Nops l (key_stored y u e d k) m
     key_nops u e d lo r =
         plain _ refl (plain _ refl (plain _ refl (plain _ refl (plain _ refl (plain _ refl (plain _ refl
-        (dropped_nops y asks most (a_value ∷ []) (zero ∷ []) e 1 zero d lo (record { are = r.are; calls = r.calls }))))))))
+        (dropped_nops y l G enough (a_value ∷ []) (zero ∷ []) e 1 zero d lo (record { are = r.are; calls = r.calls; frees = r.frees }))))))))
 
     iterator_nops : (u : ℕ) → Nops l k m → Nops l (iterator_left y u k) m
-    iterator_nops u r = record { are = r.are; calls = r.calls }
+    iterator_nops u r = record { are = r.are; calls = r.calls; frees = r.frees }
 
     left_by_nops : (way d : ℕ) → Nops l k m → Nops l (left_by way d k) m
-    left_by_nops way d r = record { are = r.are; calls = r.calls }
+    left_by_nops way d r = record { are = r.are; calls = r.calls; frees = r.frees }
 
   -- Quick ways.
 
@@ -96,8 +95,8 @@ module _ (y : Layout) (asks : Bool) (most : ℕ) where
   -- sums in all cases
 
   name_nops : {k : Instructions} {m : List Instructions} (i : Holder) (t d : ℕ) → Nops l k m → Nops l (name_numbered y i t d k) m
-  name_nops (OfName i) t d r = record { are = r.are; calls = r.calls }
-  name_nops (OfParameter i) t d r = record { are = r.are; calls = r.calls }
+  name_nops (OfName i) t d r = record { are = r.are; calls = r.calls; frees = r.frees }
+  name_nops (OfParameter i) t d r = record { are = r.are; calls = r.calls; frees = r.frees }
 
   numbered_nops : {k : Instructions} {m : List Instructions} (x : Source) (t d : ℕ) → Nops l k m → Nops l (source_numbered y x t d k) m
   numbered_nops (Held i) t d r = name_nops i t d r
@@ -108,8 +107,8 @@ module _ (y : Layout) (asks : Bool) (most : ℕ) where
   taken_nops (Constant z) t r = plain _ refl r
 
   sum_nops : {k : Instructions} {m : List Instructions} (op : IBinOp) (i : Holder) (t d : ℕ) → Nops l k m → Nops l (sum_taken y op i t d k) m
-  sum_nops op (OfName i) t d r = record { are = r.are; calls = r.calls }
-  sum_nops op (OfParameter i) t d r = record { are = r.are; calls = r.calls }
+  sum_nops op (OfName i) t d r = record { are = r.are; calls = r.calls; frees = r.frees }
+  sum_nops op (OfParameter i) t d r = record { are = r.are; calls = r.calls; frees = r.frees }
 
   anyway_nops : {k : Instructions} {m : List Instructions} (x : Sum) (d : ℕ) → Nops l k m → Nops l (summed_anyway y x d k) m
   anyway_nops x d r = numbered_nops x.left zero d (numbered_nops x.right 1 d (taken_nops x.left zero (taken_nops x.right 1 (sum_nops (sum_op x.op) x.target zero d r))))
@@ -117,13 +116,13 @@ module _ (y : Layout) (asks : Bool) (most : ℕ) where
   -- counters in arrays
 
   kept_nops : {k : Instructions} {m : List Instructions} (op : IBinOp) (t d : ℕ) → Nops l k m → Nops l (sum_kept y op t d k) m
-  kept_nops op t d r = record { are = r.are; calls = r.calls }
+  kept_nops op t d r = record { are = r.are; calls = r.calls; frees = r.frees }
 
   element_nops : {k : Instructions} {m : List Instructions} (a : ArrayName) (d : ℕ) → Nops l k m → Nops l (element_numbered y a d k) m
-  element_nops a d r = array_nops y asks most a (record { are = r.are; calls = r.calls })
+  element_nops a d r = array_nops y l G enough a (record { are = r.are; calls = r.calls; frees = r.frees })
 
   given_nops : {k : Instructions} {m : List Instructions} (a : ArrayName) → Nops l k m → Nops l (element_given y a k) m
-  given_nops a r = array_nops y asks most a (record { are = r.are; calls = r.calls })
+  given_nops a r = array_nops y l G enough a (record { are = r.are; calls = r.calls; frees = r.frees })
 
   -- remainders
 
@@ -132,77 +131,77 @@ module _ (y : Layout) (asks : Bool) (most : ℕ) where
   multiplied_nops (Some c) r = plain _ refl (plain _ refl r)
 
   taken_remainder_nops : {k : Instructions} {m : List Instructions} (q : Remainder) → Nops l k m → Nops l (remainder_taken y q k) m
-  taken_remainder_nops q r = holder_nops y asks most q.multiple.name (multiplied_nops q.multiple.factor (plain _ refl (plain _ refl (put_nops q.target r))))
+  taken_remainder_nops q r = holder_nops y l G enough q.multiple.name (multiplied_nops q.multiple.factor (plain _ refl (plain _ refl (put_nops q.target r))))
 
-  remainder_nops : {k : Instructions} {m : List Instructions} (o : Option Remainder) (e : Code) (d : ℕ) → (asks ≡ true → Few most zero e) → Nops l k m → Nops l (remainder_dropped y o e d k) m
-  remainder_nops None e d lo r = dropped_nops y asks most [] [] e zero zero d lo r
-  remainder_nops (Some q) e d lo r = all_nops y asks most (remainder_names q) _ _ (choice (dropped_nops y asks most [] [] e zero zero (suc d) lo none) (taken_remainder_nops q none) r)
+  remainder_nops : {k : Instructions} {m : List Instructions} (o : Option Remainder) (e : Code) (d : ℕ) → (l.asked ≡ true → Meets G zero e) → Nops l k m → Nops l (remainder_dropped y o e d k) m
+  remainder_nops None e d lo r = dropped_nops y l G enough [] [] e zero zero d lo r
+  remainder_nops (Some q) e d lo r = all_nops y l G enough (remainder_names q) _ _ (choice (dropped_nops y l G enough [] [] e zero zero (suc d) lo none) (taken_remainder_nops q none) r)
 
   module _ {k : Instructions} {m : List Instructions} where
-    barely_nops : (o : Option Tally) (e : Code) (d : ℕ) → tally_in e ≡ o → (asks ≡ true → Few most zero e) → Nops l k m → Nops l (barely_dropped y o e d k) m
+    barely_nops : (o : Option Tally) (e : Code) (d : ℕ) → tally_in e ≡ o → (l.asked ≡ true → Meets G zero e) → Nops l k m → Nops l (barely_dropped y o e d k) m
     barely_nops None e d h lo r = remainder_nops (remainder_in e) e d lo r
     barely_nops (Some q) e d h lo r =
         let f = form_of [] q.key in
-        emitted_nops y asks most false [] [] q.key zero zero d (λ z. (counter_few most e q h (lo z)).0)
-        (emitted_nops y asks most false (f ∷ []) (zero ∷ []) q.added 1 zero d (λ z. (counter_few most e q h (lo z)).1)
+        emitted_nops y l G enough false [] [] q.key zero zero d (λ z. (counter_few G e q h (lo z)).0)
+        (emitted_nops y l G enough false (f ∷ []) (zero ∷ []) q.added 1 zero d (λ z. (counter_few G e q h (lo z)).1)
         (to_value_nops b f zero (element_nops q.read d (to_number_nops b (form_of (f ∷ []) q.added) 1 d (plain _ refl (plain _ refl (kept_nops (sum_op q.op) 2 d (given_nops q.written r))))))))
 
   module _ {k : Instructions} {m : List Instructions} where
-    plainly_nops : (o : Option Update) (e : Code) (d : ℕ) → update_in e ≡ o → (asks ≡ true → Few most zero e) → Nops l k m → Nops l (plainly_dropped y o e d k) m
+    plainly_nops : (o : Option Update) (e : Code) (d : ℕ) → update_in e ≡ o → (l.asked ≡ true → Meets G zero e) → Nops l k m → Nops l (plainly_dropped y o e d k) m
     plainly_nops None e d h lo r = barely_nops (tally_in e) e d refl lo r
     plainly_nops (Some q) e d h lo r = by (field_at q.added)
       where
         by : (o : Option ℤ) → Nops l (both_asked y o q d (sum_taken y (sum_op q.op) q.target zero d k)) m
         by (Some z) = name_nops q.name zero d (plain _ refl (plain _ refl (plain _ refl (plain _ refl (sum_nops (sum_op q.op) q.target zero d r)))))
         by None =
-            emitted_nops y asks most false [] [] q.added zero zero d (λ z. added_few most e q h (lo z))
+            emitted_nops y l G enough false [] [] q.added zero zero d (λ z. added_few G e q h (lo z))
             (name_nops q.name 1 d (to_number_nops b (form_of [] q.added) zero d (plain _ refl (plain _ refl (sum_nops (sum_op q.op) q.target zero d r)))))
 
-    quick_nops : (o : Option Sum) (e : Code) (d : ℕ) → (asks ≡ true → Few most zero e) → Nops l k m → Nops l (quickly_dropped y o e d k) m
+    quick_nops : (o : Option Sum) (e : Code) (d : ℕ) → (l.asked ≡ true → Meets G zero e) → Nops l k m → Nops l (quickly_dropped y o e d k) m
     quick_nops None e d lo r = plainly_nops (update_in e) e d refl lo r
     quick_nops (Some x) e d lo r =
-        all_nops y asks most (sum_names x) _ _ (choice (anyway_nops x (suc d) none) (source_nops y asks most x.left (source_nops y asks most x.right (plain _ refl (put_nops x.target none)))) r)
+        all_nops y l G enough (sum_names x) _ _ (choice (anyway_nops x (suc d) none) (source_nops y l G enough x.left (source_nops y l G enough x.right (plain _ refl (put_nops x.target none)))) r)
 
-    counted_nops : (o : Option Counted) (e : Code) (d out : ℕ) → (asks ≡ true → Few most zero e) → Nops l k m → Nops l (left_unless_counted y o e d out k) m
-    counted_nops None e d out lo r = tested_nops y asks most [] [] e zero zero d lo (plain _ refl (plain _ refl r))
+    counted_nops : (o : Option Counted) (e : Code) (d out : ℕ) → (l.asked ≡ true → Meets G zero e) → Nops l k m → Nops l (left_unless_counted y o e d out k) m
+    counted_nops None e d out lo r = tested_nops y l G enough [] [] e zero zero d lo (plain _ refl (plain _ refl r))
     counted_nops (Some q) e d out lo r =
-        holder_nops y asks most q.name (plain _ refl (plain _ refl (choice (tested_nops y asks most [] [] e zero zero (suc d) lo (plain _ refl (plain _ refl none))) (by q.name) r)))
+        holder_nops y l G enough q.name (plain _ refl (plain _ refl (choice (tested_nops y l G enough [] [] e zero zero (suc d) lo (plain _ refl (plain _ refl none))) (by q.name) r)))
       where
         by : (h : Holder) → Nops l (counted_left y (record { op = q.op; name = h }) (suc out) Done) []
-        by (OfName i) = record { are = refl; calls = λ z. refl }
-        by (OfParameter i) = record { are = refl; calls = λ z. refl }
+        by (OfName i) = record { are = refl; calls = λ z. refl; frees = refl }
+        by (OfParameter i) = record { are = refl; calls = λ z. refl; frees = refl }
 
-    pair_nops : (o : Option Pair) (e : Code) (d out : ℕ) → (asks ≡ true → Few most zero e) → Nops l k m → Nops l (left_unless_pair y o e d out k) m
+    pair_nops : (o : Option Pair) (e : Code) (d out : ℕ) → (l.asked ≡ true → Meets G zero e) → Nops l k m → Nops l (left_unless_pair y o e d out k) m
     pair_nops None e d out lo r = counted_nops (counted_in e) e d out lo r
     pair_nops (Some q) e d out lo r =
-        all_nops y asks most (pair_names q) _ _ (choice (tested_nops y asks most [] [] e zero zero (suc d) lo (plain _ refl (plain _ refl none))) (source_nops y asks most q.left (source_nops y asks most q.right (plain _ refl (plain _ refl none)))) r)
+        all_nops y l G enough (pair_names q) _ _ (choice (tested_nops y l G enough [] [] e zero zero (suc d) lo (plain _ refl (plain _ refl none))) (source_nops y l G enough q.left (source_nops y l G enough q.right (plain _ refl (plain _ refl none)))) r)
 
-    left_nops : (o : Option Within) (e : Code) (d out : ℕ) → (asks ≡ true → Few most zero e) → Nops l k m → Nops l (left_unless y o e d out k) m
+    left_nops : (o : Option Within) (e : Code) (d out : ℕ) → (l.asked ≡ true → Meets G zero e) → Nops l k m → Nops l (left_unless y o e d out k) m
     left_nops None e d out lo r = pair_nops (pair_in e) e d out lo r
-    left_nops (Some q) e d out lo r = holder_nops y asks most q.name (plain _ refl (plain _ refl (plain _ refl (plain _ refl (choice (tested_nops y asks most [] [] e zero zero (suc d) lo (plain _ refl (plain _ refl none))) none r)))))
+    left_nops (Some q) e d out lo r = holder_nops y l G enough q.name (plain _ refl (plain _ refl (plain _ refl (plain _ refl (choice (tested_nops y l G enough [] [] e zero zero (suc d) lo (plain _ refl (plain _ refl none))) none r)))))
 
   -- `return`
 
   answer_nops : {k : Instructions} {m : List Instructions} (f : Form) (d : ℕ) → Nops l k m → Nops l (answer_given y f d k) m
-  answer_nops (PrimitiveAnswer (answer.Of sort.Value)) d r = record { are = r.are; calls = r.calls }
-  answer_nops (PrimitiveAnswer (answer.Of sort.Number)) d r = record { are = r.are; calls = r.calls }
-  answer_nops (PrimitiveAnswer answer.Truth) d r = record { are = r.are; calls = r.calls }
-  answer_nops NumberOrText d r = record { are = r.are; calls = r.calls }
-  answer_nops OptionalNumber d r = record { are = r.are; calls = r.calls }
-  answer_nops f d r = record { are = r.are; calls = r.calls }
+  answer_nops (PrimitiveAnswer (answer.Of sort.Value)) d r = record { are = r.are; calls = r.calls; frees = r.frees }
+  answer_nops (PrimitiveAnswer (answer.Of sort.Number)) d r = record { are = r.are; calls = r.calls; frees = r.frees }
+  answer_nops (PrimitiveAnswer answer.Truth) d r = record { are = r.are; calls = r.calls; frees = r.frees }
+  answer_nops NumberOrText d r = record { are = r.are; calls = r.calls; frees = r.frees }
+  answer_nops OptionalNumber d r = record { are = r.are; calls = r.calls; frees = r.frees }
+  answer_nops f d r = record { are = r.are; calls = r.calls; frees = r.frees }
 
-  returned_nops : {k : Instructions} {m : List Instructions} (e : Code) (d : ℕ) → (asks ≡ true → Few most zero e) → Nops l k m → Nops l (returned y e d k) m
+  returned_nops : {k : Instructions} {m : List Instructions} (e : Code) (d : ℕ) → (l.asked ≡ true → Meets G zero e) → Nops l k m → Nops l (returned y e d k) m
   returned_nops (Choose sort.Value e a c) d lo r =
       whichever (is_some (pair_in e))
       (within (pair_nops (pair_in e) e (suc d) zero (λ z. (lo z).0) (returned_nops a (suc d) (λ z. (lo z).1.0) none)) (returned_nops c d (λ z. (lo z).1.1) r))
-      (tested_nops y asks most [] [] e zero zero d (λ z. (lo z).0) (choice (returned_nops a (suc d) (λ z. (lo z).1.0) none) (returned_nops c (suc d) (λ z. (lo z).1.1) none) r))
+      (tested_nops y l G enough [] [] e zero zero d (λ z. (lo z).0) (choice (returned_nops a (suc d) (λ z. (lo z).1.0) none) (returned_nops c (suc d) (λ z. (lo z).1.1) none) r))
   returned_nops (Get (Parameter true i)) d lo r = plain _ refl (plain _ refl (plain _ refl r))
-  returned_nops e d lo r = emitted_nops y asks most false [] [] e zero zero d lo (answer_nops (form_of [] e) d r)
+  returned_nops e d lo r = emitted_nops y l G enough false [] [] e zero zero d lo (answer_nops (form_of [] e) d r)
 
   mutual
     unfolding step_emitted steps_emitted
 
-    step_nops : {k : Instructions} {m : List Instructions} (s : Step) (u d bk ct : ℕ) → (asks ≡ true → StepFew most s) → Nops l k m → Nops l (step_emitted y s u d bk ct k) (step_starts y s u d bk ct k ++ m)
+    step_nops : {k : Instructions} {m : List Instructions} (s : Step) (u d bk ct : ℕ) → (l.asked ≡ true → StepMeets G s) → Nops l k m → Nops l (step_emitted y s u d bk ct k) (step_starts y s u d bk ct k ++ m)
     step_nops (Eval e) u d bk ct lo r = begun (quick_nops (sum_in e) e d lo r)
     step_nops (Steps_ ss) u d bk ct lo r = begun (steps_nops ss u d bk ct lo r)
     step_nops (Either e a c) u d bk ct lo r =
@@ -210,28 +209,28 @@ module _ (y : Layout) (asks : Bool) (most : ℕ) where
         begun (chosen_before (is_some (pair_in e)) _ _ _ _
         (within (within (pair_nops (pair_in e) e (suc (suc d)) zero (λ z. (lo z).0)
         (alone (step_nops a u (suc (suc d)) (suc (suc bk)) (suc (suc ct)) (λ z. (lo z).1.0) (plain (Br 1) refl none)))) last) r)
-        (tested_nops y asks most [] [] e zero zero d (λ z. (lo z).0) (branches (alone (step_nops a u (suc d) (suc bk) (suc ct) (λ z. (lo z).1.0) none)) last r)))
+        (tested_nops y l G enough [] [] e zero zero d (λ z. (lo z).0) (branches (alone (step_nops a u (suc d) (suc bk) (suc ct) (λ z. (lo z).1.0) none)) last r)))
     step_nops (Loop true e a c) u d bk ct lo r =
         let rest = none_or (is_nothing c) (plain (Br zero) refl none) (alone (step_nops c u (suc (suc d)) 1 zero (λ z. (lo z).1.1) (plain (Br zero) refl none))) in
         begun (within (alone (rounds (left_nops (test_within e) e (suc (suc d)) 1 (λ z. (lo z).0)
         (chosen (step_jumps a) _ _ _ (within (alone (step_nops a u (suc (suc (suc d))) 2 zero (λ z. (lo z).1.0) none)) rest) (step_nops a u (suc (suc d)) 1 zero (λ z. (lo z).1.0) rest))) none)) r)
     step_nops (Loop false e a c) u d bk ct lo r =
         begun (within (alone (rounds (within (alone (step_nops a u (suc (suc (suc d))) 2 zero (λ z. (lo z).1.0) none))
-        (step_nops c u (suc (suc d)) 1 zero (λ z. (lo z).1.1) (begun (tested_nops y asks most [] [] e zero zero (suc (suc d)) (λ z. (lo z).0) (plain _ refl none))))) none)) r)
+        (step_nops c u (suc (suc d)) 1 zero (λ z. (lo z).1.1) (begun (tested_nops y l G enough [] [] e zero zero (suc (suc d)) (λ z. (lo z).0) (plain _ refl none))))) none)) r)
     step_nops (Each a e s) u d bk ct lo r =
-        begun (array_nops y asks most a (plain _ refl (plain _ refl (within (alone (rounds (key_nops u e (suc (suc d)) (λ z. (lo z).0)
+        begun (array_nops y l G enough a (plain _ refl (plain _ refl (within (alone (rounds (key_nops u e (suc (suc d)) (λ z. (lo z).0)
         (alone (within (alone (step_nops s (suc u) (suc (suc (suc d))) 2 zero (λ z. (lo z).1) none)) (plain _ refl none)))) none)) (iterator_nops u r)))))
     step_nops Break u d bk ct lo r = begun (plain _ refl r)
     step_nops Continue u d bk ct lo r = begun (plain _ refl r)
     step_nops Next u d bk ct lo r = begun (left_by_nops _ d r)
     step_nops Exit u d bk ct lo r = begun (left_by_nops _ d r)
     step_nops (ExitWith e) u d bk ct lo r =
-        begun (emitted_nops y asks most false [] [] e zero zero d lo (to_number_nops b (form_of [] e) zero d (plain _ refl (plain _ refl (left_by_nops _ d r)))))
+        begun (emitted_nops y l G enough false [] [] e zero zero d lo (to_number_nops b (form_of [] e) zero d (plain _ refl (plain _ refl (left_by_nops _ d r)))))
     step_nops (Return e) u d bk ct lo r =
         begun (returned_nops e d lo r)
     step_nops (Mark i c) u d bk ct lo r = begun (plain _ refl (plain _ refl r))
 
-    pub steps_nops : {k : Instructions} {m : List Instructions} (ss : Steps) (u d bk ct : ℕ) → (asks ≡ true → StepsFew most ss) → Nops l k m → Nops l (steps_emitted y ss u d bk ct k) (steps_starts y ss u d bk ct k ++ m)
+    pub steps_nops : {k : Instructions} {m : List Instructions} (ss : Steps) (u d bk ct : ℕ) → (l.asked ≡ true → StepsMeet G ss) → Nops l k m → Nops l (steps_emitted y ss u d bk ct k) (steps_starts y ss u d bk ct k ++ m)
     steps_nops NoStep u d bk ct lo r = r
     steps_nops {k = k} {m = m} (AndThen s ss) u d bk ct lo r =
         as_listed (step_nops s u d bk ct (λ z. (lo z).0) (steps_nops ss u d bk ct (λ z. (lo z).1) r)) (sym (append_assoc (step_starts y s u d bk ct (steps_emitted y ss u d bk ct k)) (steps_starts y ss u d bk ct k) m))
@@ -255,15 +254,15 @@ module _ (y : Layout) (asks : Bool) (most : ℕ) where
 
   temporaries_let_go : {k : Instructions} {m : List Instructions} (t n : ℕ) → Nops l k m → Nops l (temporaries_swept y t n k) m
   temporaries_let_go t zero r = r
-  temporaries_let_go t (suc n) r = let x = temporaries_let_go (suc t) n r in record { are = x.are; calls = x.calls }
+  temporaries_let_go t (suc n) r = let x = temporaries_let_go (suc t) n r in record { are = x.are; calls = x.calls; frees = x.frees }
 
   iterators_let_go : {k : Instructions} {m : List Instructions} (t n : ℕ) → Nops l k m → Nops l (iterators_swept y t n k) m
   iterators_let_go t zero r = r
-  iterators_let_go t (suc n) r = let x = iterators_let_go (suc t) n r in record { are = x.are; calls = x.calls }
+  iterators_let_go t (suc n) r = let x = iterators_let_go (suc t) n r in record { are = x.are; calls = x.calls; frees = x.frees }
 
   arrays_let_go : {k : Instructions} {m : List Instructions} (t n : ℕ) → Nops l k m → Nops l (arrays_swept y t n k) m
   arrays_let_go t zero r = r
-  arrays_let_go t (suc n) r = let x = arrays_let_go (suc t) n r in record { are = x.are; calls = x.calls }
+  arrays_let_go t (suc n) r = let x = arrays_let_go (suc t) n r in record { are = x.are; calls = x.calls; frees = x.frees }
 
   swept_nops : {k : Instructions} {m : List Instructions} → Nops l k m → Nops l (swept y k) m
   swept_nops r = temporaries_let_go zero b.temporaries (iterators_let_go zero b.iterators (arrays_let_go zero b.arrays r))
@@ -278,7 +277,7 @@ module _ (y : Layout) (asks : Bool) (most : ℕ) where
   parameters_nops x (Unboxed ∷ ks) r = parameters_nops (suc x) ks r
   parameters_nops x (ArrayKind ∷ ks) r = parameters_nops (suc x) ks r
 
-  routine_nops : (ks : List Kind) (body : Steps) → (asks ≡ true → StepsFew most body) → Nops l (routine_body y ks body) (steps_starts y body zero zero zero zero (routine_rest b))
+  pub routine_nops : (ks : List Kind) (body : Steps) → (l.asked ≡ true → StepsMeet G body) → Nops l (routine_body y ks body) (steps_starts y body zero zero zero zero (routine_rest b))
   routine_nops ks body lo =
       emptied_nops (alone (within (alone (within (alone (steps_nops body zero zero zero zero lo (plain _ refl (plain _ refl (plain _ refl none))))) (temporaries_let_go zero b.temporaries (arrays_let_go zero b.arrays none))))
       (iterators_let_go zero b.iterators (parameters_nops zero ks (plain _ refl none)))))
@@ -307,7 +306,7 @@ module _ (y : Layout) (asks : Bool) (most : ℕ) where
     goes_nops r = plain _ refl (plain _ refl (left_swept_nops (has_functions y.calls) r))
 
   module _ {k : Instructions} {m : List Instructions} where
-    record_nops : (items : Steps) (d : ℕ) → (asks ≡ true → StepsFew most items) → Nops l k m → Nops l (record_done y items d k) (steps_starts y items zero zero zero zero (emit (Br 1) Done) ++ m)
+    record_nops : (items : Steps) (d : ℕ) → (l.asked ≡ true → StepsMeet G items) → Nops l k m → Nops l (record_done y items d k) (steps_starts y items zero zero zero zero (emit (Br 1) Done) ++ m)
     record_nops items d lo r =
         within (alone (within (alone (steps_nops items zero zero zero zero lo (plain _ refl none))) (plain _ refl (plain _ refl (plain _ refl (plain _ refl (goes_nops none))))))) r
 
@@ -317,21 +316,21 @@ module _ (y : Layout) (asks : Bool) (most : ℕ) where
         (choice (plain _ refl (plain _ refl (plain _ refl none))) none (goes_nops none)))))))))) r
 
   module _ {k : Instructions} {m : List Instructions} where
-    records_nops : (items : Steps) (d : ℕ) → (asks ≡ true → StepsFew most items) → Nops l k m → Nops l (records_read y items d k) (steps_starts y items zero zero zero zero (emit (Br 1) Done) ++ m)
+    records_nops : (items : Steps) (d : ℕ) → (l.asked ≡ true → StepsMeet G items) → Nops l k m → Nops l (records_read y items d k) (steps_starts y items zero zero zero zero (emit (Br 1) Done) ++ m)
     records_nops items d lo r =
         rounds (plain _ refl (kept_code_nops b true zero (suc d) (plain _ refl (plain _ refl (plain _ refl
         (alone (alone (branches (alone (record_nops items (suc (suc d)) lo (plain _ refl none))) none (plain _ refl (plain _ refl (plain _ refl
-        (choice (pending_nops y asks most zero (plain _ refl none)) none none)))))))))))) r
+        (choice (pending_nops y l G enough zero (plain _ refl none)) none none)))))))))))) r
 
     before_nops : (p : Program) → Nops l k m → Nops l (before_parts y p k) m
     before_nops p r =
         started_nops (declared_nops (length p.texts) y.names (routines_nops (length p.texts + length p.globals) (length p.routines)
-        (made_nops zero y.names (asked_nops y asks most row.StartAssign zero zero r))))
+        (made_nops zero y.names (asked_nops y l G enough row.StartAssign zero zero r))))
 
   abbrev out : Instructions
   out = emit (Br 1) Done
 
-  first_nops : (p : Program) → (asks ≡ true → PartsFew most p) →
+  first_nops : (p : Program) → (l.asked ≡ true → PartsMeet G p) →
       Nops l (first_part y p) (steps_starts y p.begin zero zero zero zero (if p.reads then records_read y p.items zero out else out) ++ (if p.reads then steps_starts y p.items zero zero zero zero out else []))
   first_nops p lo = steps_nops p.begin zero zero zero zero (λ z. (lo z).0) (by p.reads)
     where
@@ -339,25 +338,40 @@ module _ (y : Layout) (asks : Bool) (most : ℕ) where
       by true = alone (records_nops p.items zero (λ z. (lo z).1.0) (plain _ refl none))
       by false = plain _ refl none
 
-  main_nops : (p : Program) → (asks ≡ true → PartsFew most p) → Nops l (main_body y p)
+  pub main_nops : (p : Program) → (l.asked ≡ true → PartsMeet G p) → Nops l (main_body y p)
       ((steps_starts y p.begin zero zero zero zero (if p.reads then records_read y p.items zero out else out) ++ (if p.reads then steps_starts y p.items zero zero zero zero out else [])) ++ steps_starts y p.end zero zero zero zero out)
   main_nops p lo =
       emptied_nops (alone (within (before_nops p (part_nops zero (first_nops p lo) (plain _ refl (alone (part_nops zero (alone (steps_nops p.end zero zero zero zero (λ z. (lo z).1.1) (plain _ refl none))) none)))))
       (swept_nops (plain _ refl (plain _ refl none)))))
 
 -- EACH STEP has its place
+
+abbrev unasked : Limit
+unasked = record { asked = false; allowed = λ n a z. true }
+
+abbrev Any : (t f : ℕ) → Codes → Type 0
+Any t f es = Unit {0}
+
 pub routine_has_starts : (p : Program) (r : Routine) → starts_in (routine_callee p r).body ≡ routine_starts p r
-routine_has_starts p r = (routine_nops (layout_of p (routine_bases r)) false zero r.parameters r.body (λ z. cc)).are
+routine_has_starts p r = (routine_nops (layout_of p (routine_bases r)) unasked Any (λ t f es h. refl) r.parameters r.body (λ z. cc)).are
 
 pub main_has_starts : (p : Program) → starts_in (main_callee p).body ≡ main_starts p
-main_has_starts p = (main_nops (layout_of p (main_bases p)) false zero p (λ z. cc)).are
+main_has_starts p = (main_nops (layout_of p (main_bases p)) unasked Any (λ t f es h. refl) p (λ z. cc)).are
 
 -- THE OPERANDS under each call of a function are few in its code, where they are few in its steps
+
+near : (b : Bases) (most t : ℕ) → t ≤ most → nat_le (handle_local b t) (last_local b.parameters most) ≡ true
+near b most t h = le-leb (handle_local b t) (last_local b.parameters most) (omega (arith, h))
+
 pub routine_few : (p : Program) (r : Routine) (most : ℕ) → StepsFew most r.body → calls_fit (limit_of (routine_callee p r) most) (routine_callee p r).body ≡ true
-routine_few p r most h = (routine_nops (layout_of p (routine_bases r)) true most r.parameters r.body (λ z. h)).calls refl
+routine_few p r most h =
+    let b = routine_bases r in
+    (routine_nops (layout_of p b) (limit_of (routine_callee p r) most) (UpTo most) (λ t f es le. near b most t le) r.parameters r.body (λ z. h)).calls refl
 
 pub main_few : (p : Program) (most : ℕ) → PartsFew most p → calls_fit (limit_of (main_callee p) most) (main_callee p).body ≡ true
-main_few p most h = (main_nops (layout_of p (main_bases p)) true most p (λ z. h)).calls refl
+main_few p most h =
+    let b = main_bases p in
+    (main_nops (layout_of p b) (limit_of (main_callee p) most) (UpTo most) (λ t f es le. near b most t le) p (λ z. h)).calls refl
 
 -- How many there are.
 

@@ -12,17 +12,18 @@ use Rattle.wasm_types.specs.declared.instr.Simple.TheVariants as simple
 use Rattle.wasm_model.specs.Frames.{LabelForm}
 use Rattle.wasm_model.specs.Machines.{CallerForm}
 use Rattle.host_step.specs.HostState.{Names}
-use Rattle.mid_program.specs.Mid.{Kind, Boxed, Unboxed, ArrayKind, Program, Routine, parameters_at}
+use Rattle.mid_program.specs.Mid.{Kind, Boxed, Unboxed, ArrayKind, Program}
+use Rattle.mid_program.specs.Sorted.{IsSorted}
 use Rattle.lower_model.specs.Cells.{Cell, Bits, Held, IteratorOf, OwnedArray, LentArray, Gone, arrays_owned, is_held, is_operand, is_owned, iterators_in, locals_wait, no_value, operands_wait}
 use Rattle.lower_model.specs.Emission.{function_number}
 use Rattle.lower_model.specs.Functions.{main_callee, routine_callee}
-use Rattle.host_imports.specs.Imports.{import_count, import_number, imports}
-use Rattle.lower_model.specs.Machine.{Callee, Code, Frame, Label, answers_to, array_kinds, freed_next, is_walk, loops_walked}
+use Rattle.host_imports.specs.Imports.{import_count, imports}
+use Rattle.host_imports.specs.Names.{import_number}
+use Rattle.lower_model.specs.Machine.{Callee, Code, Frame, Label, answers_to, freed_next, is_walk, loops_walked}
 use Rattle.lower_model.specs.Modules.{all_callees, called_imports, calls_in, imports_of, new_number, renumbered, renumbered_simple}
 use Rattle.host_imports.specs.declared.import.Import.TheVariants.{Drop, OfPrimitive}
 use Rattle.agreement.proofs.TypedLemmas.Chosen.{functions_behind}
 use Rattle.agreement.specs.Refined.Refined.{AgainAs, FrameAs, FramesAs, LabelsAs}
-use Rattle.agreement.proofs.RefinedLemmas.ImportAnswers.{some_of}
 use Rattle.agreement.proofs.RefinedLemmas.Links.{number_there, stays}
 use Rattle.agreement.specs.Places.Alive.{count_waiting, values_waiting, walks_waiting}
 use Rattle.agreement.specs.Places.NoLeaks.{CallerWaits, CallersWait, IsCalled, LocalsWait, NoValues, OperandsHold, boxed, count, is_keys, is_next, numbers_of, one, walks}
@@ -31,7 +32,9 @@ use Rattle.agreement.proofs.PlacesLemmas.Counting.{held, held_in, held_waiting, 
 use Rattle.std.specs.List.{Contains}
 use Rattle.agreement.proofs.PlacesLemmas.Totals.{held_each}
 use Rattle.agreement.proofs.PlacesLemmas.Fitting.{FrameFits, FramesFit}
-use Rattle.agreement.proofs.PlacesLemmas.Working.{FramesWork, HasMadeFew, Waits}
+use Rattle.agreement.proofs.PlacesLemmas.Given.{call_given}
+use Rattle.agreement.proofs.PlacesLemmas.Missing.{call_missing}
+use Rattle.agreement.proofs.PlacesLemmas.Working.{FramesWork, Waits}
 
 -- Locals.
 
@@ -218,13 +221,7 @@ module _ (p : Program) where
 
   -- Callers.
 
-  kinds_called : (rs : List Routine) (k : ℕ) (f : Callee) → slice_get (map (routine_callee p) rs) k ≡ Some f
-      → f.kinds ≡ parameters_at (map (λ (r : Routine). r.parameters) rs) k
-  kinds_called [] k f e = absurd (none-some f e)
-  kinds_called (r ∷ rs) zero f e = ap (λ (z : Callee). z.kinds) (sym (some_of (routine_callee p r) f e))
-  kinds_called (r ∷ rs) (suc k) f e = kinds_called rs k f e
-
-  module _ (u : Code) (callees : u.callees ≡ map (routine_callee p) p.routines) (instructions places globals : ℕ) (made : ℕ) (N : Names) where
+  module _ (well : IsSorted p) (u : Code) (callees : u.callees ≡ map (routine_callee p) p.routines) (instructions places globals : ℕ) (made : ℕ) (N : Names) where
     abbrev Fun : Callee → Type 0
     Fun = Contains (all_callees p)
 
@@ -232,11 +229,14 @@ module _ (p : Program) where
     First g = g ≡ main_callee p
 
     caller_waits : (f : Frame) (r : CallerForm) → FrameAs (stays p) bs made N f r → FrameFits u instructions places globals (OfFunction p) f →
-        (y : Waits u Fun First f.kinds f.rest f.labels) (g : Callee) → HasMadeFew u Fun First g y.called f.locals → CallerWaits p (held f.locals) r
-    caller_waits f r a b y g z =
+        Waits u Fun First f.kinds f.rest f.labels → CallerWaits p (held f.locals) r
+    caller_waits f r a b y =
         let w = and_parts (locals_wait (answers_to f.rest) f.kinds f.locals) (nat_eq (iterators_in f.locals) (loops_walked f.labels) && nat_le (arrays_owned f.locals) (freed_next f.rest)) b.waits in
         let v = and_parts (nat_eq (iterators_in f.locals) (loops_walked f.labels)) (nat_le (arrays_owned f.locals) (freed_next f.rest)) w.1 in
         let h = locals_hold (answers_to f.rest) f.kinds f.locals w.0 in
+        let within : count sort.Array (held f.locals) ≤ freed_next f.rest = (let e = owned_arrays f.locals in let le = leb-true (arrays_owned f.locals) (freed_next f.rest) v.1 in omega (arith, e, le)) in
+        let call = call_given p y.function y.is y.called f.rest y.code in
+        let missing = call_missing p well y.function y.called call.0 call.1 in
         record {
           function = y.function;
           is_function = y.is;
@@ -249,13 +249,10 @@ module _ (p : Program) where
           each = held_each made N f.locals r.frame.locals a.locals;
           locals_hold = subst (λ (ks : List Kind). LocalsWait h.0 ks (held f.locals)) (sym y.kinds) h.2;
           walked = local_iterators f.locals ∙ (eqb-true (iterators_in f.locals) (loops_walked f.labels) v.0 ∙ sym (walks_same made N f.labels r.frame.labels a.labels));
-          fresh =
-              (let e = owned_arrays f.locals in
-              let le = leb-true (arrays_owned f.locals) (array_kinds g.kinds) z.few in
-              let is_called = sym (ap (λ (fs : List Callee). slice_get fs y.called) callees) ∙ z.is_callee in
-              let k = ap array_kinds (kinds_called p.routines y.called g is_called) in
-              omega (arith, e, le, k));
-          freed = (let e = owned_arrays f.locals in let le = leb-true (arrays_owned f.locals) (freed_next f.rest) v.1 in omega (arith, e, le));
+          given = call.0;
+          is_call = call.1;
+          fresh = (let same = call.2 in omega (arith, within, same, missing));
+          freed = call.2 ∙ missing;
         }
 
     pub callers_wait : (g : Callee) (F : List Frame) (rs : List CallerForm) → FramesAs (stays p) bs made N F rs →
@@ -264,7 +261,7 @@ module _ (p : Program) where
     callers_wait g [] (r ∷ []) a b y = a
     callers_wait g [] (r ∷ (q ∷ rs)) a b y = absurd a
     callers_wait g (f ∷ F) [] a b y = absurd a
-    callers_wait g (f ∷ F) (r ∷ rs) a b y = (caller_waits f r a.0 b.0 y.0 g y.1, callers_wait y.0.function F rs a.1 b.1 y.2)
+    callers_wait g (f ∷ F) (r ∷ rs) a b y = (caller_waits f r a.0 b.0 y.0, callers_wait y.0.function F rs a.1 b.1 y.2)
 
     -- EACH IS THE ONE THAT ITS CALLER CALLED
     pub each_called : (g : Callee) (F : List Frame) (rs : List CallerForm) (a : FramesAs (stays p) bs made N F rs)
@@ -275,7 +272,7 @@ module _ (p : Program) where
     each_called g [] (r ∷ (q ∷ rs)) a b y = absurd a
     each_called g (f ∷ F) [] a b y = absurd a
     each_called g (f ∷ F) (r ∷ rs) a b y =
-        let at = sym (ap (λ (fs : List Callee). slice_get fs y.0.called) callees) ∙ y.1.is_callee in
+        let at = sym (ap (λ (fs : List Callee). slice_get fs y.0.called) callees) ∙ y.1 in
         (still_there (map (routine_callee p) p.routines) (main_callee p ∷ []) y.0.called g at, each_called y.0.function F rs a.1 b.1 y.2)
 
   pub values_counted : (rest : List (List (Option Sort))) (rs : List CallerForm) (h : CallersWait p rest rs) → count_waiting sort.Value rest ≤ values_waiting p rest rs h

@@ -1,7 +1,7 @@
 -- Which function is at work: its code, and that under its labels, are parts of the function's body, and so are those of callers that wait. It is the one that
 -- the caller that waits has called; the first of all is `main`.
-use Rattle.std.proofs.Common.{◌≡◌, ℕ, zero, suc, ◌-◌, Bool, true, false, not, ◌&&◌, cond, nat_eq, nat_le, nat_lt, List, [], ◌∷◌, ◌++◌, length, take, drop, reverse, set, slice_get, Option, Some, None, refl, sym, subst, arith}
-use Rattle.std.proofs.lemmas.Bool.{and_parts, ltb-false}
+use Rattle.std.proofs.Common.{◌≡◌, ℕ, zero, suc, ◌-◌, Bool, true, false, not, ◌&&◌, cond, nat_eq, nat_lt, List, [], ◌∷◌, ◌++◌, length, take, drop, reverse, set, slice_get, Option, Some, None, refl, sym, subst, arith}
+use Rattle.std.proofs.lemmas.Bool.{ltb-false}
 use Rattle.wasm_types.specs.Syntax.{Instruction, Plain, Block, Loop, If, Instructions, Done, Then}
 use Rattle.wasm_types.specs.declared.instr.Simple.{Simple}
 use Rattle.wasm_types.specs.declared.instr.Simple.TheVariants as simple
@@ -14,7 +14,7 @@ use Rattle.lower_model.specs.Cells.{Cell, Bits, Held, LentArray, OwnedArray, Ite
 use Rattle.lower_model.specs.Emission.{function_number}
 use Rattle.lower_model.specs.ImportCalls.{Host, call, look}
 use Rattle.host_imports.specs.Imports.{import_at, import_count}
-use Rattle.lower_model.specs.Machine.{Code, Callee, Conf, Run, Look, Over, Deep, Stuck, Frame, Label, Store, act, ask, ask_looking, at, br, br_if, call_number, choose, enter, go, guarded, label, leave, leave_function, makes_few, onto, operated, run_looking, set_global, set_local, step, takes_look, tee_local, teed, waits, width, with_answer, with_operands, work, zeros, ending_name}
+use Rattle.lower_model.specs.Machine.{Code, Callee, Conf, Run, Look, Over, Deep, Stuck, Frame, Label, Store, act, ask, ask_looking, at, br, br_if, call_number, choose, enter, go, guarded, label, leave, leave_function, onto, operated, run_looking, set_global, set_local, step, takes_look, tee_local, teed, width, with_answer, with_operands, work, zeros, ending_name}
 use Rattle.host_imports.specs.declared.import.Import.{Import}
 use Rattle.std.specs.List.{Contains}
 use Rattle.std.proofs.lemmas.List.Elements.{Contains-append_left, Contains-append_right, Contains-push}
@@ -54,15 +54,10 @@ module _ (u : Code) (Fun First : Callee → Type 0) where
     pub code : IsPart function.body (Then (Plain (simple.Call (function_number called))) c)
     pub labels : LabelsPart function.body K
 
-  -- and has made few arrays for that function
-  pub record HasMadeFew (callee : Callee) (called : ℕ) (L : List Cell) : Type 0 where
-    pub is_callee : slice_get u.callees called ≡ Some callee
-    pub few : makes_few callee.kinds L ≡ true
-
   -- each has called the one above it
   abbrev pub FramesWork : Callee → List Frame → Type 0
   FramesWork g [] = First g
-  FramesWork g (f ∷ F) = (w : Waits f.kinds f.rest f.labels) × HasMadeFew g w.called f.locals × FramesWork w.function F
+  FramesWork g (f ∷ F) = (w : Waits f.kinds f.rest f.labels) × (slice_get u.callees w.called ≡ Some g) × FramesWork w.function F
 
   abbrev pub Stands : Conf → Type 0
   Stands (Run ks vs K L F c G) = (w : Works ks c K) × FramesWork w.function F
@@ -98,10 +93,6 @@ module _ (u : Code) (Fun First : Callee → Type 0) where
   guarded_stands : (b : Bool) (c : Conf) → Stands c → Stands (guarded b c)
   guarded_stands true c h = h
   guarded_stands false c h = tt
-
-  guarded_known : (b : Bool) (c : Conf) → (b ≡ true → Stands c) → Stands (guarded b c)
-  guarded_known true c h = h refl
-  guarded_known false c h = tt
 
   pub at_stands : (ks : List Kind) (vs : List Cell) (K : List Label) (L : List Cell) (F : List Frame) (c : Instructions) (G : Store) →
       (w : Works ks c K) → FramesWork w.function F → Stands (at ks vs K L F c G)
@@ -183,17 +174,16 @@ module _ (u : Code) (Fun First : Callee → Type 0) where
       (w : Waits ks c K) → slice_get u.callees w.called ≡ f → FramesWork w.function F → Stands (enter u.deepest f ks vs K L F c G)
   enter_stands None is ks vs K L F c G w called r = tt
   enter_stands (Some f) is ks vs K L F c G w called r =
-      guarded_known (((nat_le (length f.kinds) (length vs) && none_owned (drop (length f.kinds) vs)) && waits ks K L c) && makes_few f.kinds L) _
-      (λ q. by (and_parts ((nat_le (length f.kinds) (length vs) && none_owned (drop (length f.kinds) vs)) && waits ks K L c) (makes_few f.kinds L) q).1 (nat_lt (length F) u.deepest))
+      guarded_stands _ _ (by (nat_lt (length F) u.deepest))
     where
       waiting : Frame
       waiting = record { kinds = ks; under = drop (length f.kinds) vs; labels = K; locals = L; rest = c }
 
-      by : makes_few f.kinds L ≡ true → (b : Bool) → Stands (cond b (at f.kinds [] [] (reverse (take (length f.kinds) vs) ++ zeros f.locals) (waiting ∷ F) f.body G) (Deep G))
-      by few true =
+      by : (b : Bool) → Stands (cond b (at f.kinds [] [] (reverse (take (length f.kinds) vs) ++ zeros f.locals) (waiting ∷ F) f.body G) (Deep G))
+      by true =
           at_stands f.kinds [] [] (reverse (take (length f.kinds) vs) ++ zeros f.locals) (waiting ∷ F) f.body G (record { function = f; is = is f refl; kinds = refl; code = all; labels = tt })
-          (w, record { is_callee = called; few = few }, r)
-      by few false = tt
+          (w, called, r)
+      by false = tt
 
   leave_function_stands : (g : Callee) (v : Cell) (F : List Frame) (G : Store) → FramesWork g F → Stands (leave_function u v F G)
   leave_function_stands g v [] G r = guarded_stands (not (is_owned v) && globals_by (ending_name G.host.fault) u.before u.names G.globals) (Over v G) tt

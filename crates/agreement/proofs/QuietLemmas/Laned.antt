@@ -112,5 +112,5 @@ pub laned_quiet : (p : Program) → IsSorted p → ModuleOk (module_of p) → (j
 laned_quiet p sorted typed job input outside m c s reached here a =
     let values = Agreeing.agreement p (code_follows p sorted) in
     let none = unassigned p values job input outside m c s reached (begins p c s here (IsAssigned reached) a) in
-    let q = quietly p (agreement p values) typed job input outside m reached.is_new values c s reached (at_sum p c s here (IsAssigned reached) none a) in
+    let q = quietly p (agreement p values) typed job input outside m reached.is_new sorted values c s reached (at_sum p c s here (IsAssigned reached) none a) in
     record { steps = q.steps; place = q.place; goes = q.goes; holds = elim q.holds [ inl x ↦ inl (next_is p c s here (IsAssigned reached) none a q.place x) | inr x ↦ inr x ] }

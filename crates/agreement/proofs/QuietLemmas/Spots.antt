@@ -1,8 +1,7 @@
 -- The place of a statement `name = Expr` of a script has the code of an assignment, and then that of what comes after it in its list.
 use Rattle.std.proofs.Common.{◌≡◌, ◌⊎◌, inl, inr, ℕ, List, ◌∷◌, length, refl, sym, ap, subst, ◌∙◌}
-use Rattle.awk_grammar.specs.Stmt as stmt
-use Rattle.awk_grammar.specs.Stmt.{And, Stmt, Stmts}
-use Rattle.awk_grammar.specs.Tree.{Tree}
+use Rattle.awk_grammar.specs.Trees as stmt
+use Rattle.awk_grammar.specs.Trees.{And, Stmt, Stmts, Tree}
 use Rattle.wasm_types.specs.Syntax.{Instructions}
 use Rattle.wasm_model.specs.Machines.{Conf, ProgramForm}
 use Rattle.host_step.specs.HostState.{HostState}

@@ -20,6 +20,7 @@ use Rattle.host_imports.specs.Imports.{host_finds, host_types, import_at}
 use Rattle.host_step.specs.Starts.{state_in}
 use Rattle.mid_program.specs.Mid.{Eval, Program, Set, Then}
 use Rattle.mid_program.specs.MidMeaning.{mid_run_in}
+use Rattle.mid_program.specs.Sorted.{IsSorted}
 use Rattle.lower_model.specs.Emission.{Layout}
 use Rattle.lower_model.specs.Functions.{layout_of}
 use Rattle.lower_model.specs.Modules.{called_imports, module_of, renumbered}
@@ -110,7 +111,7 @@ module _ (p : Program) (agree : Agreement (mid_run_in p) (module_of p)) (typed :
         (steps_join table_meaning m.program n k m.conf start output c s [] d s t (steps_of m.program s k c d e));
   }
 
-  module _ (values : ValueAgreement p) (c : Conf) (s : HostState) (reached : Reached (module_of p) job input outside m c s) (a : AtSum p c) where
+  module _ (sorted : IsSorted p) (values : ValueAgreement p) (c : Conf) (s : HostState) (reached : Reached (module_of p) job input outside m c s) (a : AtSum p c) where
     abbrev There : Conf → Type 0
     There d = AtNext p c a d ⊎ AtFault p c d
 
@@ -128,7 +129,7 @@ module _ (p : Program) (agree : Agreement (mid_run_in p) (module_of p)) (typed :
     begins = refl
 
     clear : c.frame.values ≡ []
-    clear = (statement p values job input outside m c s reached (ap begins_statement a.code ∙ begins)).operands
+    clear = (statement p values job input outside m c s reached sorted (ap begins_statement a.code ∙ begins)).operands
 
     flows : Flows m.program There (called_imports p) c c.frame.labels c.globals c.frame.locals [] here
     flows =

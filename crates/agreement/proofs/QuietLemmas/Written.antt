@@ -2,7 +2,7 @@
 use Rattle.std.proofs.Common.{ℕ, false, List, Option, Some, None, refl}
 use Rattle.sem_primitives.specs.Numbers.{Number as AnyNumber}
 use Rattle.awk_grammar.specs.Token as token
-use Rattle.awk_grammar.specs.Tree.{Tree}
+use Rattle.awk_grammar.specs.Trees.{Tree}
 use Rattle.folding.specs.Folding.{folded, reduced, reduced_to, same, value_of}
 use Rattle.mid_program.specs.declared.mid.Arithmetic.{Arithmetic}
 use Rattle.mid_program.specs.declared.mid.Arithmetic.TheVariants as inline

@@ -16,7 +16,8 @@ use Rattle.sem_primitives.specs.Constants.{specials}
 use Rattle.sem_primitives.specs.FieldMeaning.{at_least, done, field_number, joined, resized, set_field_row, set_special, set_special_row, special_text, with_field}
 use Rattle.sem_primitives.specs.FieldMeaning.{with_fields, with_record}
 use Rattle.sem_primitives.specs.Fields.{Separator, fields_of, pieces_of}
-use Rattle.sem_primitives.specs.FirstMatch.{expression_of, first_match}
+use Rattle.sem_primitives.specs.FirstMatch.{first_match}
+use Rattle.sem_primitives.specs.Eres.{expression_of}
 use Rattle.sem_primitives.specs.Finds.{observed, observed_by, seen}
 use Rattle.sem_primitives.specs.InputMeaning.{Main, Taken, Over, Pending, NotOpened, Failed, as_line, as_record, begins_reading, counted_by, counted_record}
 use Rattle.sem_primitives.specs.InputMeaning.{file_named, file_or_assignment, follows}

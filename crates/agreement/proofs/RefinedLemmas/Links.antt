@@ -13,7 +13,8 @@ use Rattle.wasm_model.specs.Machines.{Conf, ProgramForm, asked, asked_if, call_a
 use Rattle.wasm_model.specs.Runs.{MachineForm}
 use Rattle.sem_primitives.specs.declared.table.Primitive.TheVariants as row
 use Rattle.mid_program.specs.Mid.{Program}
-use Rattle.host_imports.specs.Imports.{host_finds, import_at, import_count, import_name, import_number, import_type, imports, module_name}
+use Rattle.host_imports.specs.Imports.{host_finds, import_at, import_count, import_type, imports, module_name}
+use Rattle.host_imports.specs.Names.{import_name, import_number}
 use Rattle.lower_model.specs.Machine.{Callee}
 use Rattle.lower_model.specs.Functions.{routine_callee, main_callee}
 use Rattle.lower_model.specs.Modules.{all_callees, any_calls, called_imports, callee_type, calls_in, functions_from, imported_from, imports_of, module_of}

@@ -13,7 +13,8 @@ use Rattle.wasm_types.specs.Typing.{ModuleOk}
 use Rattle.mid_program.specs.Mid.{Kind, Program, Routine}
 use Rattle.mid_program.specs.Sorted.{IsSorted, all_differ, announced_names, context_of, is_sorted, kinds_of, parts_sorted, routines_sorted, steps_sorted}
 use Rattle.lower_model.specs.Functions.{layout_of, main_bases, main_callee, routine_bases, routine_callee, texts_of}
-use Rattle.host_imports.specs.Imports.{import_name, module_name}
+use Rattle.host_imports.specs.Imports.{module_name}
+use Rattle.host_imports.specs.Names.{import_name}
 use Rattle.lower_model.specs.Machine.{Callee}
 use Rattle.lower_model.specs.Modules.{all_callees, called_imports, functions_from, imported_from, imports_of, module_of, name_globals, renumbered, word_global}
 use Rattle.lower_model.specs.Places.{Bases, handle_types, local_types, memory_of, temporary_types}

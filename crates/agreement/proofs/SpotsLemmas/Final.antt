@@ -1,7 +1,6 @@
 -- Code with constants computed and names in their lanes does what the tree does.
 use Rattle.std.proofs.Common.{◌≡◌, ℕ, List, Option, Some, None, refl, sym, ◌∙◌}
-use Rattle.awk_grammar.specs.Stmt.{Stmt}
-use Rattle.awk_grammar.specs.Tree.{Tree}
+use Rattle.awk_grammar.specs.Trees.{Stmt, Tree}
 use Rattle.folding.specs.Folding.{same, reduced}
 use Rattle.folding.proofs.Folds as folded
 use Rattle.folding.proofs.Reduced.{reduced_same}
@@ -13,9 +12,9 @@ use Rattle.sem_scripts.specs.Statements.{test_of, maybe_test, done_by}
 use Rattle.sem_scripts.specs.Steps.{store_variable}
 use Rattle.mid_program.specs.Texts.{texts_in, maybe_texts, stmt_texts}
 use Rattle.mid_program.specs.Translation.{code_of, moved, store_variable_code, test_code, step_code}
-use Rattle.mid_code.proofs.Stands.{AllStand}
-use Rattle.mid_code.proofs.Statements as code
-use Rattle.mid_code.proofs.Trees.{Heads}
+use Rattle.mid_meaning.proofs.Stands.{AllStand}
+use Rattle.mid_meaning.proofs.Statements as code
+use Rattle.mid_meaning.proofs.Trees.{Heads}
 use Rattle.mid_program.proofs.Congruence as rewritten
 use Rattle.mid_program.specs.Alike.{AlikeKinds}
 use Rattle.mid_program.specs.Rewriting.{code_in, step_in}

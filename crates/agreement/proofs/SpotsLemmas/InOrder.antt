@@ -6,11 +6,10 @@ use Rattle.std.proofs.lemmas.Simd.{map-map}
 use Rattle.wasm_types.specs.Syntax.{Instruction, Plain, BrTable, Block as Inside, Loop, If, Instructions, Done, Then, FuncForm}
 use Rattle.wasm_types.specs.declared.instr.Simple.{Simple}
 use Rattle.wasm_types.specs.declared.instr.Simple.TheVariants.{Nop}
-use Rattle.awk_grammar.specs.Item as item
-use Rattle.awk_grammar.specs.Item.{Item}
+use Rattle.awk_grammar.specs.Trees as item
+use Rattle.awk_grammar.specs.Trees.{Item, Block}
 use Rattle.awk_grammar.specs.Kinds.{Key, functions_by, heads, is_used_as}
 use Rattle.awk_grammar.specs.Marks.{Array, script_marks}
-use Rattle.awk_grammar.specs.Stmt.{Block}
 use Rattle.folding.specs.Folding.{folded_routine}
 use Rattle.sem_scripts.specs.Items.{print_record, pattern_ranges, reads_records, top}
 use Rattle.sem_scripts.specs.Kinds.{bodies, resolved, with_bodies}

@@ -3,10 +3,8 @@ use Rattle.std.proofs.Common.{◌≡◌, ℕ, Bool, true, false, List, [], Optio
 use Rattle.std.specs.Prelude.{if◌then◌else◌}
 use Rattle.world_core.specs.WorldState.{Action}
 use Rattle.wasm_types.specs.Syntax.{Instructions}
-use Rattle.awk_grammar.specs.Item as item
-use Rattle.awk_grammar.specs.Item.{Pattern}
-use Rattle.awk_grammar.specs.Stmt.{Stmt, Stmts, Block as Actions}
-use Rattle.awk_grammar.specs.Tree.{Tree}
+use Rattle.awk_grammar.specs.Trees as item
+use Rattle.awk_grammar.specs.Trees.{Pattern, Stmt, Stmts, Block as Actions, Tree}
 use Rattle.sem_scripts.specs.Items.{range_open, tested}
 use Rattle.sem_scripts.specs.Meaning.{Calls}
 use Rattle.mid_program.specs.Mid.{Kind, Slot, Code, Mark, Step, Block, NoStep, Then}
@@ -16,9 +14,9 @@ use Rattle.sem_scripts.specs.ScriptState.{Execution, ◌>>=◌, ◌>>◌, give, 
 use Rattle.sem_scripts.specs.Statements.{Flow, Normal, after}
 use Rattle.mid_program.specs.Texts.{texts_in, pattern_texts, stmt_texts, stmts_texts}
 use Rattle.mid_program.specs.Translation.{steps_code, step_code, where_code}
-use Rattle.mid_code.proofs.Binding.{assoc, under}
-use Rattle.mid_code.proofs.Stands.{AllStand, first_part, second_part}
-use Rattle.mid_code.proofs.Statements.{alone, plainly}
+use Rattle.mid_meaning.proofs.Binding.{assoc, under}
+use Rattle.mid_meaning.proofs.Stands.{AllStand, first_part, second_part}
+use Rattle.mid_meaning.proofs.Statements.{alone, plainly}
 use Rattle.lower_model.specs.Emission.{Layout}
 use Rattle.lower_model.specs.Machine.{Notes}
 use Rattle.lower_model.specs.Noted.{noted, step_noted, steps_noted}

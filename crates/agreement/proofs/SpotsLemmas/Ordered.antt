@@ -2,11 +2,8 @@
 use Rattle.std.proofs.Common.{◌≡◌, ℕ, suc, Bool, true, false, List, [], ◌∷◌, ◌++◌, Option, Some, None, map, refl, sym, ap, ◌∙◌}
 use Rattle.std.specs.Prelude.{if◌then◌else◌, is_some}
 use Rattle.std.proofs.lemmas.List.{append-nil, map-append}
-use Rattle.awk_grammar.specs.Item as item
-use Rattle.awk_grammar.specs.Item.{Pattern}
-use Rattle.awk_grammar.specs.Stmt as stmt
-use Rattle.awk_grammar.specs.Stmt.{Stmt, Stmts, NoStmt, And}
-use Rattle.awk_grammar.specs.Tree.{Tree}
+use Rattle.awk_grammar.specs.Trees as item
+use Rattle.awk_grammar.specs.Trees.{Pattern, Stmt, Stmts, NoStmt, And, Tree}
 use Rattle.wasm_types.specs.Syntax.{Instructions, Done}
 use Rattle.wasm_types.specs.declared.instr.Simple.TheVariants.{Br}
 use Rattle.mid_program.specs.Mid.{Code, Slot, Mark, Step, Block, Steps}
@@ -52,13 +49,13 @@ module _ (y : Layout) (slots : Slot → Slot) (texts : List (List ℕ)) (scope :
         after = instruction (Br 1) Done;
       }) (aside p))
 
-  plain_starts : (p : stmt.Plain) (q : Position) → starts_at (final slots (plain_step texts scope p)) q ≡ at (final slots (plain_step texts scope p)) q ∷ []
-  plain_starts (stmt.Eval t) q = refl
-  plain_starts (stmt.Put w args _) q = refl
-  plain_starts (stmt.Delete a ts) q = refl
-  plain_starts (stmt.Clear a) q = refl
+  plain_starts : (p : item.Plain) (q : Position) → starts_at (final slots (plain_step texts scope p)) q ≡ at (final slots (plain_step texts scope p)) q ∷ []
+  plain_starts (item.Eval t) q = refl
+  plain_starts (item.Put w args _) q = refl
+  plain_starts (item.Delete a ts) q = refl
+  plain_starts (item.Clear a) q = refl
 
-  maybe_starts : (p : Option stmt.Plain) (q : Position) → starts_at (final slots (maybe_step texts scope p)) q
+  maybe_starts : (p : Option item.Plain) (q : Position) → starts_at (final slots (maybe_step texts scope p)) q
       ≡ at (final slots (maybe_step texts scope p)) q ∷ []
   maybe_starts None q = refl
   maybe_starts (Some p) q = plain_starts p q
@@ -76,46 +73,46 @@ module _ (y : Layout) (slots : Slot → Slot) (texts : List (List ℕ)) (scope :
     round_so s rest p = sym (chosen_at (starts_at s) (step_jumps s) (in_block p) (at_end rest p))
 
     -- the third part of a `for`
-    last_so : (i : Option stmt.Plain) (c : Option Tree) (p : Option stmt.Plain) (s : Stmt) (w : List Frame) → map place (last_spots (stmt.For i c p s) p w)
+    last_so : (i : Option item.Plain) (c : Option Tree) (p : Option item.Plain) (s : Stmt) (w : List Frame) → map place (last_spots (item.For i c p s) p w)
         ≡ (if is_nothing (final slots (maybe_step texts scope p)) then [] else starts_at (final slots (maybe_step texts scope p))
         (at_end (back y slots texts scope) (there w)))
     last_so i c None s w = refl
     last_so i c (Some p) s w =
         let between = starts_at (final slots (plain_step texts scope p)) (at_end (back y slots texts scope) (there w)) in
-        (λ j. placed (stmt.For i c (Some p) s) Between w j ∷ []) ∙ sym (plain_starts p (at_end (back y slots texts scope) (there w)))
+        (λ j. placed (item.For i c (Some p) s) Between w j ∷ []) ∙ sym (plain_starts p (at_end (back y slots texts scope) (there w)))
         ∙ ap (λ (b : Bool). if b then [] else between) (sym (something y slots texts scope p))
 
     mutual
       unfolding steps_emitted step_code steps_code
 
       pub stmt_so : (s : Stmt) (w : List Frame) → map place (stmt_spots s w) ≡ starts_at (step_of y slots texts scope s) (there w)
-      stmt_so (stmt.Block ss) w = λ j. placed (stmt.Block ss) Whole w j ∷ stmts_so ss w j
-      stmt_so stmt.Empty w = λ j. placed stmt.Empty Whole w j ∷ []
-      stmt_so (stmt.Simple p) w = (λ j. placed (stmt.Simple p) Whole w j ∷ []) ∙ sym (plain_starts p (there w))
-      stmt_so (stmt.If c s) w =
-          let yes = stmt_so s (Within (stmt.If c s) ∷ w) ∙ met_starts (step_of y slots texts scope s) (test_in y slots texts scope c) (there w) in
-          ap (λ (xs : List Instructions). place (Of (stmt.If c s) Whole w) ∷ xs)
-          (map-append place (stmt_spots s (Within (stmt.If c s) ∷ w)) (Of (stmt.If c s) Unless w ∷ []))
-          ∙ (λ j. placed (stmt.If c s) Whole w j ∷ (yes j ++ placed (stmt.If c s) Unless w j ∷ []))
-      stmt_so (stmt.IfElse c s t) w =
-          let whole = stmt.IfElse c s t in
+      stmt_so (item.Block ss) w = λ j. placed (item.Block ss) Whole w j ∷ stmts_so ss w j
+      stmt_so item.Empty w = λ j. placed item.Empty Whole w j ∷ []
+      stmt_so (item.Simple p) w = (λ j. placed (item.Simple p) Whole w j ∷ []) ∙ sym (plain_starts p (there w))
+      stmt_so (item.If c s) w =
+          let yes = stmt_so s (Within (item.If c s) ∷ w) ∙ met_starts (step_of y slots texts scope s) (test_in y slots texts scope c) (there w) in
+          ap (λ (xs : List Instructions). place (Of (item.If c s) Whole w) ∷ xs)
+          (map-append place (stmt_spots s (Within (item.If c s) ∷ w)) (Of (item.If c s) Unless w ∷ []))
+          ∙ (λ j. placed (item.If c s) Whole w j ∷ (yes j ++ placed (item.If c s) Unless w j ∷ []))
+      stmt_so (item.IfElse c s t) w =
+          let whole = item.IfElse c s t in
           let yes = stmt_so s (Within whole ∷ w) ∙ met_starts (step_of y slots texts scope s) (test_in y slots texts scope c) (there w) in
           let no = stmt_so t (AfterElse whole ∷ w) in
           ap (λ (xs : List Instructions). place (Of whole Whole w) ∷ xs)
           (map-append place (stmt_spots s (Within whole ∷ w)) (stmt_spots t (AfterElse whole ∷ w)))
           ∙ (λ j. placed whole Whole w j ∷ (yes j ++ no j))
-      stmt_so (stmt.While c s) w =
-          let body = stmt_so s (Within (stmt.While c s) ∷ w) ∙ round_so (step_of y slots texts scope s) (back y slots texts scope) (there w) in
+      stmt_so (item.While c s) w =
+          let body = stmt_so s (Within (item.While c s) ∷ w) ∙ round_so (step_of y slots texts scope s) (back y slots texts scope) (there w) in
           let all = body ∙ sym (append-nil (round_starts (step_of y slots texts scope s) (back y slots texts scope) (there w))) in
-          λ j. placed (stmt.While c s) Whole w j ∷ all j
-      stmt_so (stmt.Do s c) w =
-          let whole = stmt.Do s c in
+          λ j. placed (item.While c s) Whole w j ∷ all j
+      stmt_so (item.Do s c) w =
+          let whole = item.Do s c in
           let body = stmt_so s (Within whole ∷ w) in
           ap (λ (xs : List Instructions). place (Of whole Whole w) ∷ xs)
           (map-append place (stmt_spots s (Within whole ∷ w)) (Of whole Between w ∷ (Of whole Testing w ∷ [])))
           ∙ (λ j. placed whole Whole w j ∷ (body j ++ (placed whole Between w j ∷ (placed whole Testing w j ∷ []))))
-      stmt_so (stmt.For i c p s) w =
-          let whole = stmt.For i c p s in
+      stmt_so (item.For i c p s) w =
+          let whole = item.For i c p s in
           let between = final slots (maybe_step texts scope p) in
           let rest = if is_nothing between then back y slots texts scope else at between (at_end (back y slots texts scope) (there w)) in
           let body = stmt_so s (Within whole ∷ w) ∙ round_so (step_of y slots texts scope s) rest (there w) in
@@ -130,17 +127,17 @@ module _ (y : Layout) (slots : Slot → Slot) (texts : List (List ℕ)) (scope :
           (map-append place (stmt_spots s (Within whole ∷ w)) (last_spots whole p w))
           ∙ (λ j. placed whole Whole w j ∷ (placed whole First w j ∷ (placed whole Looping w j ∷ (body j ++ last_so i c p s w j))))
           ∙ ap (λ (xs : List Instructions). at (step_of y slots texts scope whole) (there w) ∷ xs) (sym plainly)
-      stmt_so (stmt.ForIn k a s) w = λ j. placed (stmt.ForIn k a s) Whole w j ∷ stmt_so s (Within (stmt.ForIn k a s) ∷ w) j
-      stmt_so (stmt.Jumping stmt.Break) w = λ j. placed (stmt.Jumping stmt.Break) Whole w j ∷ []
-      stmt_so (stmt.Jumping stmt.Continue) w = λ j. placed (stmt.Jumping stmt.Continue) Whole w j ∷ []
-      stmt_so (stmt.Jumping stmt.Next) w = λ j. placed (stmt.Jumping stmt.Next) Whole w j ∷ []
-      stmt_so (stmt.Jumping stmt.NextFile) w =
-          let s = stmt.Jumping stmt.NextFile in
+      stmt_so (item.ForIn k a s) w = λ j. placed (item.ForIn k a s) Whole w j ∷ stmt_so s (Within (item.ForIn k a s) ∷ w) j
+      stmt_so (item.Jumping item.Break) w = λ j. placed (item.Jumping item.Break) Whole w j ∷ []
+      stmt_so (item.Jumping item.Continue) w = λ j. placed (item.Jumping item.Continue) Whole w j ∷ []
+      stmt_so (item.Jumping item.Next) w = λ j. placed (item.Jumping item.Next) Whole w j ∷ []
+      stmt_so (item.Jumping item.NextFile) w =
+          let s = item.Jumping item.NextFile in
           λ j. placed s Whole w j ∷ (placed s GivesUp w j ∷ (placed s Leaves w j ∷ []))
-      stmt_so (stmt.Leave stmt.Exit None) w = λ j. placed (stmt.Leave stmt.Exit None) Whole w j ∷ []
-      stmt_so (stmt.Leave stmt.Exit (Some t)) w = λ j. placed (stmt.Leave stmt.Exit (Some t)) Whole w j ∷ []
-      stmt_so (stmt.Leave stmt.Return None) w = λ j. placed (stmt.Leave stmt.Return None) Whole w j ∷ []
-      stmt_so (stmt.Leave stmt.Return (Some t)) w = λ j. placed (stmt.Leave stmt.Return (Some t)) Whole w j ∷ []
+      stmt_so (item.Leave item.Exit None) w = λ j. placed (item.Leave item.Exit None) Whole w j ∷ []
+      stmt_so (item.Leave item.Exit (Some t)) w = λ j. placed (item.Leave item.Exit (Some t)) Whole w j ∷ []
+      stmt_so (item.Leave item.Return None) w = λ j. placed (item.Leave item.Return None) Whole w j ∷ []
+      stmt_so (item.Leave item.Return (Some t)) w = λ j. placed (item.Leave item.Return (Some t)) Whole w j ∷ []
 
       pub stmts_so : (ss : Stmts) (w : List Frame) → map place (stmts_spots ss w) ≡ all_starts_at (final_steps slots (steps_code texts scope ss)) (there w)
       stmts_so NoStmt w = refl

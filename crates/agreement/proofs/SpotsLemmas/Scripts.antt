@@ -1,9 +1,8 @@
 -- The code of a script notes the places of the spots that the script passes.
 use Rattle.std.proofs.Common.{◌≡◌, ℕ, zero, suc, ◌+◌, List, [], ◌∷◌, Some, None, map, refl, sym, ap, ◌∙◌}
 use Rattle.wasm_types.specs.Syntax.{Instructions}
-use Rattle.awk_grammar.specs.Item as item
-use Rattle.awk_grammar.specs.Item.{Item}
-use Rattle.awk_grammar.specs.Stmt.{Stmts}
+use Rattle.awk_grammar.specs.Trees as item
+use Rattle.awk_grammar.specs.Trees.{Item, Stmts}
 use Rattle.folding.proofs.Folds as folded
 use Rattle.folding.specs.Folding.{fold, folded_routine}
 use Rattle.sem_scripts.specs.Items.{print_record, pattern_ranges, reads_records, top}
@@ -17,9 +16,9 @@ use Rattle.mid_program.specs.Sorted.{calls_of}
 use Rattle.sem_scripts.specs.Statements.{Flow, after, entered, scope_in}
 use Rattle.mid_program.specs.Texts.{texts_in, all_texts, pattern_texts, stmt_texts, stmts_texts, item_texts, items_texts, functions_texts, texts_of_script}
 use Rattle.mid_program.specs.Translation.{begin_code, end_code, items_code, program_of, routine_code, steps_code}
-use Rattle.mid_code.proofs.Scripts.{functions_again, globals_again, heads_of_program}
-use Rattle.mid_code.proofs.Stands.{AllStand, all_stand, first_part, second_part}
-use Rattle.mid_code.proofs.Trees.{Heads}
+use Rattle.mid_meaning.proofs.Scripts.{functions_again, globals_again, heads_of_program}
+use Rattle.mid_meaning.proofs.Stands.{AllStand, all_stand, first_part, second_part}
+use Rattle.mid_meaning.proofs.Trees.{Heads}
 use Rattle.value_kinds.specs.Applied.{is_unboxed, routine_with, routines_with, slot_in}
 use Rattle.value_kinds.proofs.Applies as applied
 use Rattle.lower_model.specs.Emission.{Layout}

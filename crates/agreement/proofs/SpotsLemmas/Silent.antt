@@ -2,10 +2,8 @@
 use Rattle.std.proofs.Common.{◌≡◌, ℕ, zero, suc, ◌+◌, List, [], ◌∷◌, Option, Some, None, map, refl, ap, ◌∙◌}
 use Rattle.std.specs.Prelude.{if◌then◌else◌}
 use Rattle.sem_primitives.specs.declared.table.Primitive.TheVariants as row
-use Rattle.awk_grammar.specs.Item as item
-use Rattle.awk_grammar.specs.Item.{Item, Pattern}
-use Rattle.awk_grammar.specs.Stmt as stmt
-use Rattle.awk_grammar.specs.Stmt.{Stmt, Stmts, NoStmt, And}
+use Rattle.awk_grammar.specs.Trees as item
+use Rattle.awk_grammar.specs.Trees.{Item, Pattern, Stmt, Stmts, NoStmt, And}
 use Rattle.sem_scripts.specs.Items.{print_record, pattern_ranges, reads_records, top, where_met, items_done, begun, ended}
 use Rattle.sem_scripts.specs.Meaning.{Calls}
 use Rattle.sem_scripts.specs.Names.{Resolved, Scope, array_of, function_at, variable_of}
@@ -17,7 +15,7 @@ use Rattle.agreement.specs.Spots.Marked.{no_marks, between_marked, done_marked, 
 use Rattle.agreement.specs.Spots.Spots.{Frame, Before, Within, AfterElse, Home, OfBegin, OfEnd, OfRecord, OfFunction}
 
 module _ (home : Home) (scope : Scope) (n : ℕ) (calls : Calls) where
-  silent_between : (s : Stmt) (p : Option stmt.Plain) (w : List Frame) → between_marked (no_marks home) scope n calls s p w ≡ maybe_done scope n calls p
+  silent_between : (s : Stmt) (p : Option item.Plain) (w : List Frame) → between_marked (no_marks home) scope n calls s p w ≡ maybe_done scope n calls p
   silent_between s None w = refl
   silent_between s (Some p) w = refl
 
@@ -25,25 +23,25 @@ module _ (home : Home) (scope : Scope) (n : ℕ) (calls : Calls) where
     unfolding done_marked all_marked done_by all_done
 
     silent_statement : (s : Stmt) (w : List Frame) → done_marked (no_marks home) scope n calls s w ≡ done_by scope n calls s
-    silent_statement (stmt.Block ss) w = silent_statements ss w
-    silent_statement stmt.Empty w = refl
-    silent_statement (stmt.Simple p) w = refl
-    silent_statement (stmt.If c s) w = λ i. test_of scope n calls c >>= λ b. if b then silent_statement s (Within (stmt.If c s) ∷ w) i else give Normal
-    silent_statement (stmt.IfElse c s t) w =
-        λ i. test_of scope n calls c >>= λ b. if b then silent_statement s (Within (stmt.IfElse c s t) ∷ w) i else silent_statement t (AfterElse (stmt.IfElse c s t) ∷ w) i
-    silent_statement (stmt.While c s) w = λ i. loop n (test_of scope n calls c) (silent_statement s (Within (stmt.While c s) ∷ w) i) nothing
-    silent_statement (stmt.Do s c) w =
-        let body = silent_statement s (Within (stmt.Do s c) ∷ w) in
+    silent_statement (item.Block ss) w = silent_statements ss w
+    silent_statement item.Empty w = refl
+    silent_statement (item.Simple p) w = refl
+    silent_statement (item.If c s) w = λ i. test_of scope n calls c >>= λ b. if b then silent_statement s (Within (item.If c s) ∷ w) i else give Normal
+    silent_statement (item.IfElse c s t) w =
+        λ i. test_of scope n calls c >>= λ b. if b then silent_statement s (Within (item.IfElse c s t) ∷ w) i else silent_statement t (AfterElse (item.IfElse c s t) ∷ w) i
+    silent_statement (item.While c s) w = λ i. loop n (test_of scope n calls c) (silent_statement s (Within (item.While c s) ∷ w) i) nothing
+    silent_statement (item.Do s c) w =
+        let body = silent_statement s (Within (item.Do s c) ∷ w) in
         λ i. body i >>= λ flow. after_round flow (loop n (test_of scope n calls c) (body i) nothing)
-    silent_statement (stmt.For i c p s) w =
-        λ j. maybe_done scope n calls i >> loop n (maybe_test scope n calls c) (silent_statement s (Within (stmt.For i c p s) ∷ w) j) (silent_between (stmt.For i c p s) p w j)
-    silent_statement (stmt.ForIn k a s) w =
-        λ j. array_number (array_of scope a) >>= λ i. call row.Iter (i, tt) >>= λ keys. over_keys n keys (store_variable (variable_of scope k)) (silent_statement s (Within (stmt.ForIn k a s) ∷ w) j)
-    silent_statement (stmt.Jumping stmt.Break) w = refl
-    silent_statement (stmt.Jumping stmt.Continue) w = refl
-    silent_statement (stmt.Jumping stmt.Next) w = refl
-    silent_statement (stmt.Jumping stmt.NextFile) w = refl
-    silent_statement (stmt.Leave l t) w = refl
+    silent_statement (item.For i c p s) w =
+        λ j. maybe_done scope n calls i >> loop n (maybe_test scope n calls c) (silent_statement s (Within (item.For i c p s) ∷ w) j) (silent_between (item.For i c p s) p w j)
+    silent_statement (item.ForIn k a s) w =
+        λ j. array_number (array_of scope a) >>= λ i. call row.Iter (i, tt) >>= λ keys. over_keys n keys (store_variable (variable_of scope k)) (silent_statement s (Within (item.ForIn k a s) ∷ w) j)
+    silent_statement (item.Jumping item.Break) w = refl
+    silent_statement (item.Jumping item.Continue) w = refl
+    silent_statement (item.Jumping item.Next) w = refl
+    silent_statement (item.Jumping item.NextFile) w = refl
+    silent_statement (item.Leave l t) w = refl
 
     silent_statements : (ss : Stmts) (w : List Frame) → all_marked (no_marks home) scope n calls ss w ≡ all_done scope n calls ss
     silent_statements NoStmt w = refl
@@ -57,16 +55,16 @@ silent_called script (suc n) = λ i f locals.
     entered locals ((silent_statements (OfFunction f) (scope_in script g) n (marked_called no_marks script n) g.body [] ∙ ap (λ (calls : Calls). all_done (scope_in script g) n calls g.body) (silent_called script n)) i)
 
 module _ (scope : Scope) (n : ℕ) (calls : Calls) where
-  silent_action : (home : Home) (ss : Stmts) → done_marked (no_marks home) scope n calls (stmt.Block ss) [] ≡ all_done scope n calls ss
+  silent_action : (home : Home) (ss : Stmts) → done_marked (no_marks home) scope n calls (item.Block ss) [] ≡ all_done scope n calls ss
   unfolding done_by
-  silent_action home ss = silent_statement home scope n calls (stmt.Block ss) []
+  silent_action home ss = silent_statement home scope n calls (item.Block ss) []
 
   silent_where : (home : Home) (i : ℕ) (p : Pattern) (action : Execution Flow) → where_marked no_marks scope n calls home i p action ≡ where_met scope n calls i p action
   silent_where home i (item.One t) action = refl
   silent_where home i (item.Between t u) action = refl
 
-  silent_pattern : (home : Home) (i : ℕ) (p : Pattern) (ss : Stmts) → where_marked no_marks scope n calls home i p (done_marked (no_marks home) scope n calls (stmt.Block ss) []) ≡ where_met scope n calls i p (all_done scope n calls ss)
-  silent_pattern home i p ss = silent_where home i p (done_marked (no_marks home) scope n calls (stmt.Block ss) []) ∙ ap (where_met scope n calls i p) (silent_action home ss)
+  silent_pattern : (home : Home) (i : ℕ) (p : Pattern) (ss : Stmts) → where_marked no_marks scope n calls home i p (done_marked (no_marks home) scope n calls (item.Block ss) []) ≡ where_met scope n calls i p (all_done scope n calls ss)
+  silent_pattern home i p ss = silent_where home i p (done_marked (no_marks home) scope n calls (item.Block ss) []) ∙ ap (where_met scope n calls i p) (silent_action home ss)
 
   silent_items : (i : ℕ) (is : List Item) → items_marked no_marks scope n calls i is ≡ items_done scope n calls i is
   unfolding items_marked items_done

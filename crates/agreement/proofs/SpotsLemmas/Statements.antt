@@ -3,9 +3,8 @@ use Rattle.std.proofs.Common.{◌≡◌, ℕ, suc, Bool, true, false, List, ◌�
 use Rattle.std.specs.Prelude.{if◌then◌else◌, is_some}
 use Rattle.world_core.specs.WorldState.{Action}
 use Rattle.sem_primitives.specs.declared.table.Primitive.TheVariants as row
-use Rattle.awk_grammar.specs.Stmt as stmt
-use Rattle.awk_grammar.specs.Stmt.{Stmt, Stmts, NoStmt, And}
-use Rattle.awk_grammar.specs.Tree.{Tree}
+use Rattle.awk_grammar.specs.Trees as stmt
+use Rattle.awk_grammar.specs.Trees.{Stmt, Stmts, NoStmt, And, Tree}
 use Rattle.wasm_types.specs.Syntax.{Instructions, Done}
 use Rattle.wasm_types.specs.declared.instr.Simple.TheVariants.{Br}
 use Rattle.sem_scripts.specs.Meaning.{Calls}
@@ -17,8 +16,8 @@ use Rattle.sem_scripts.specs.Statements.{Flow, Normal, after, after_round, loop,
 use Rattle.sem_scripts.specs.Steps.{array_number}
 use Rattle.mid_program.specs.Texts.{texts_in, maybe_texts, maybe_plain_texts, plain_texts, stmt_texts, stmts_texts}
 use Rattle.mid_program.specs.Translation.{host, plain_step, maybe_step, step_code, steps_code}
-use Rattle.mid_code.proofs.Stands.{AllStand, first_part, second_part}
-use Rattle.mid_code.proofs.Statements.{alone, plainly, quietly}
+use Rattle.mid_meaning.proofs.Stands.{AllStand, first_part, second_part}
+use Rattle.mid_meaning.proofs.Statements.{alone, plainly, quietly}
 use Rattle.lower_model.specs.Emission.{Layout}
 use Rattle.lower_model.specs.Machine.{Notes}
 use Rattle.lower_model.specs.Noted.{noted, step_noted, steps_noted}

@@ -7,7 +7,8 @@ use Rattle.std.proofs.lemmas.List.Elements.{All-cons, All-nil}
 use Rattle.sem_primitives.specs.declared.table.Primitive.TheVariants as row
 use Rattle.mid_program.specs.Mid.{Program}
 use Rattle.lower_model.specs.Emission.{function_number}
-use Rattle.host_imports.specs.Imports.{imports, import_number, import_at}
+use Rattle.host_imports.specs.Imports.{imports, import_at}
+use Rattle.host_imports.specs.Names.{import_number}
 use Rattle.lower_model.specs.Machine.{Callee}
 use Rattle.lower_model.specs.Modules.{all_callees, any_calls, called_from, called_imports, imports_of, chosen, new_number}
 use Rattle.host_imports.specs.declared.import.Import.{Import}

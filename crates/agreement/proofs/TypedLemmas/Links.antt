@@ -11,7 +11,8 @@ use Rattle.wasm_model.specs.Machines.{agree, same_signature}
 use Rattle.wasm_model.proofs.Types.{decided}
 use Rattle.mid_program.specs.Mid.{Routine, Program}
 use Rattle.lower_model.specs.Functions.{texts_of, routine_callee, main_callee}
-use Rattle.host_imports.specs.Imports.{import_number, import_name, import_type, module_name}
+use Rattle.host_imports.specs.Imports.{import_type, module_name}
+use Rattle.host_imports.specs.Names.{import_number, import_name}
 use Rattle.lower_model.specs.Modules.{all_callees, imports_of, callee_type, imported_from, pages_for, module_of}
 use Rattle.lower_model.specs.Places.{memory_of}
 use Rattle.host_imports.specs.declared.import.Import.{Import}

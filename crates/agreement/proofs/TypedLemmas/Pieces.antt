@@ -19,7 +19,8 @@ use Rattle.mid_program.specs.declared.mid.Arithmetic.{Arithmetic}
 use Rattle.mid_program.specs.declared.mid.Arithmetic.TheVariants as inline
 use Rattle.mid_program.specs.Mid.{Kind, Program, Form, PrimitiveAnswer, NumberOrText, OptionalNumber}
 use Rattle.lower_model.specs.Arithmetic.{out_of_range, ranged, factors_differ, any_product, far_off, times, unless_zero, divided, unless_broken, is_value, may_be_text, calculated, field_checked, values_compared, zeroed_if, numbers_compared, texts_beside, bare_compared, compared}
-use Rattle.host_imports.specs.Imports.{import_type, import_number, result_of}
+use Rattle.host_imports.specs.Imports.{import_type, result_of}
+use Rattle.host_imports.specs.Names.{import_number}
 use Rattle.lower_model.specs.Places.{Bases, number_local, calculated_room}
 use Rattle.lower_model.specs.Small.{moved_out, moved, emptied, let_go, copied, copied_if_any, fail_if, number_is, kept_code, kept_value, kept_number, kept_done, text_taken, answer_kept, kept, boxed_number, boxed_perhaps, to_value, zeroed, code_number, number_of_value, to_number, converted, not_zero, truth, unused, released, number_copied, moved_from, copied_from, bound_from}
 use Rattle.host_imports.specs.declared.import.Import.{Import}

@@ -13,7 +13,8 @@ use Rattle.mid_program.specs.Mid.{Kind, Boxed, Unboxed, ArrayKind, Routine, Prog
 use Rattle.mid_program.specs.Sorted.{kinds_of, calls_of, has_kind}
 use Rattle.lower_model.specs.Emission.{function_number}
 use Rattle.lower_model.specs.Functions.{routine_callee, main_callee}
-use Rattle.host_imports.specs.Imports.{imports, import_number, import_type}
+use Rattle.host_imports.specs.Imports.{imports, import_type}
+use Rattle.host_imports.specs.Names.{import_number}
 use Rattle.lower_model.specs.Machine.{Callee}
 use Rattle.lower_model.specs.Modules.{all_callees, callee_type, globals_of, word_global, long_global, name_globals}
 use Rattle.lower_model.specs.Places.{Bases, kind_type, local_types, temporary_types, handle_types, range_global, handle_global, number_global, answer_local, handle_local, number_local, iterator_local, array_local}

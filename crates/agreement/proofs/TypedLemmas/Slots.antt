@@ -15,7 +15,7 @@ use Rattle.sem_scripts.specs.Names.{ArrayName, Numbered, Given}
 use Rattle.mid_program.specs.Sorted.{context_of, is_array_place, is_slot, kinds_of, arrays_among}
 use Rattle.lower_model.specs.Emission.{array_pushed, slot_read, handle_stored, value_stored, text_dropped, slot_set, assigned, assigned_by_number, pending_assigned, asked}
 use Rattle.lower_model.specs.Functions.{layout_of}
-use Rattle.host_imports.specs.Imports.{primitive_number}
+use Rattle.host_imports.specs.Names.{primitive_number}
 use Rattle.lower_model.specs.Places.{Bases, handle_global, array_name}
 use Rattle.host_imports.specs.declared.import.Import.TheVariants.{OfPrimitive, Drop}
 use Rattle.lower_model.proofs.Arrays.{array_named}

@@ -7,7 +7,8 @@ use Rattle.wasm_types.specs.declared.types.ValType.TheVariants.{I32, I64}
 use Rattle.mid_program.specs.Mid.{Kind, Program, parameters_at}
 use Rattle.mid_program.specs.Sorted.{calls_of, kinds_of, has_kind}
 use Rattle.lower_model.specs.Emission.{function_number}
-use Rattle.host_imports.specs.Imports.{import_number, import_type}
+use Rattle.host_imports.specs.Imports.{import_type}
+use Rattle.host_imports.specs.Names.{import_number}
 use Rattle.lower_model.specs.Places.{Bases, way_global, status_global, text_global, range_global, handle_global, number_global, answer_local, handle_local, number_local, iterator_local, array_local, kind_type}
 use Rattle.host_imports.specs.declared.import.Import.{Import}
 use Rattle.agreement.proofs.TypedLemmas.Singles.{variable}

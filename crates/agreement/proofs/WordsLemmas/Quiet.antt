@@ -1,6 +1,6 @@
 -- Statements on names to which nothing assigns are on such names whatever it is that assigns less.
 use Rattle.std.proofs.Common.{ℕ, true, false, List}
-use Rattle.awk_grammar.specs.Tree.{Tree}
+use Rattle.awk_grammar.specs.Trees.{Tree}
 use Rattle.wasm_model.specs.Machines.{Conf}
 use Rattle.host_step.specs.HostState.{HostState}
 use Rattle.mid_program.specs.Mid.{Global, Kind, Parameter, Program, Slot}

@@ -9,15 +9,15 @@ use Rattle.wasm_store.specs.declared.word.Word.{Word}
 use Rattle.wasm_store.specs.declared.word.Word.TheVariants.{I32, I64}
 use Rattle.wasm_model.specs.Frames.{LabelForm}
 use Rattle.awk_grammar.specs.Token.{Number as Numeral}
-use Rattle.awk_grammar.specs.Tree.{Tree, Leaf, Var, Call as CallOf, Bin, Join, NoTree, Then as AndTree}
-use Rattle.awk_grammar.specs.Stmt.{Print, NoArgs, Written, Put, Return, Stmt, Simple, Leave, NoStmt, And}
-use Rattle.awk_grammar.specs.Item.{Begin}
-use Rattle.mid_program.specs.Mid.{Kind, Boxed, Unboxed, ArrayKind}
+use Rattle.awk_grammar.specs.Trees.{Tree, Leaf, Var, Call as CallOf, Bin, Join, NoTree, Then as AndTree, Print, NoArgs, Written, Put, Return, Stmt, Simple, Leave, NoStmt, And, Begin}
+use Rattle.mid_program.specs.Mid as mid
+use Rattle.mid_program.specs.Mid.{Kind, Boxed, Unboxed, ArrayKind, Codes, End, At, Fresh}
 use Rattle.sem_scripts.specs.Names.{Resolved}
-use Rattle.host_imports.specs.Imports.{import_number}
+use Rattle.host_imports.specs.Names.{import_number}
 use Rattle.lower_model.specs.Machine.{array_kinds, freed_next}
 use Rattle.lower_model.specs.Small.{minus_one}
 use Rattle.host_imports.specs.declared.import.Import.TheVariants.{FreeArray, OfPrimitive}
+use Rattle.agreement.specs.Places.Calls.{code_calls, missing_arrays}
 use Rattle.agreement.specs.Places.NoLeaks.{begins_statement, boxed, holders, is_keys, scalars, walks}
 use Rattle.agreement.specs.Places.Nodes.{nodes_of}
 use Rattle.agreement.specs.Places.Places.{size}
@@ -91,6 +91,17 @@ kept code = Then (Plain (LocalTee 1)) (Then (Plain (I32Const minus_one)) (Then (
 
 pub two_arrays : freed_next (kept (let_go 4 (let_go 3 (Then (Plain Nop) (let_go 3 Done))))) ≡ 2
 two_arrays = refl
+
+-- `f(g())` has two calls; where `f` has an array after its first parameter, there is no argument for that
+
+abbrev given : Codes
+given = At (mid.Call 1 End) (Fresh End)
+
+pub two_calls : code_calls (mid.Call 0 given) ≡ (0, given) ∷ ((1, End) ∷ [])
+two_calls = refl
+
+pub one_missing : missing_arrays (Boxed ∷ (ArrayKind ∷ [])) given ∷ (missing_arrays [] End ∷ []) ≡ 1 ∷ (0 ∷ [])
+one_missing = refl
 
 -- `return a b f(c)` has six expressions, each part counted, and `print > f(1)` two; the second stands in no function
 

@@ -19,16 +19,17 @@ use Rattle.host_step.specs.HostState.{HostState, Names}
 use Rattle.host_imports.specs.Imports.{host_finds}
 use Rattle.host_step.specs.Starts.{state_in}
 use Rattle.host_step.specs.Tables.{Table, look}
-use Rattle.mid_program.specs.Mid.{Kind, Boxed, Unboxed, ArrayKind, Program, parameters_at}
+use Rattle.mid_program.specs.Mid.{Kind, Boxed, Unboxed, ArrayKind, Codes, Program, parameters_at}
 use Rattle.mid_program.specs.Sorted.{calls_of, kinds_of}
 use Rattle.sem_primitives.specs.declared.table.Primitive.TheVariants as row
 use Rattle.lower_model.specs.Emission.{function_number}
-use Rattle.host_imports.specs.Imports.{import_number}
+use Rattle.host_imports.specs.Names.{import_number}
 use Rattle.lower_model.specs.Functions.{main_callee}
-use Rattle.lower_model.specs.Machine.{Callee, answers_to, array_kinds, freed_next}
+use Rattle.lower_model.specs.Machine.{Callee, answers_to, freed_next}
 use Rattle.lower_model.specs.Modules.{all_callees, called_imports, imports_of, renumbered}
 use Rattle.lower_model.specs.Small.{minus_one, text_beside}
 use Rattle.host_imports.specs.declared.import.Import.TheVariants.{OfPrimitive}
+use Rattle.agreement.specs.Places.Calls.{HasCall, missing_arrays}
 use Rattle.agreement.specs.Places.Places.{IsPart}
 use Rattle.agreement.specs.Places.Statements.{starts_in}
 use Rattle.agreement.specs.Refined.Owners.{wanted}
@@ -168,8 +169,8 @@ LocalsWait m (Unboxed ∷ ks) (o ∷ os) = (o ≡ None) × LocalsWait m ks os
 LocalsWait m (ArrayKind ∷ ks) (o ∷ os) = (o ≡ None) × LocalsWait m ks os
 
 -- A caller that waits for a call of a function in one of its expressions: what is left comes after that call, and the answer goes to the local of the
--- operand after those that are pending. Arrays that it holds were made for that call, at most one for each that its function is given, and are let go right
--- after it.
+-- operand after those that are pending. Arrays that it holds were made for that call, at most one for each array parameter that has no argument there, and
+-- for each of those an array is let go right after it.
 pub record CallerWaits (p : Program) (os : List (Option Sort)) (r : CallerForm) : Type 0 where
   pub function : Callee
   pub is_function : Contains (all_callees p) function
@@ -182,8 +183,10 @@ pub record CallerWaits (p : Program) (os : List (Option Sort)) (r : CallerForm) 
   pub each : EachPlace os r.frame.locals
   pub locals_hold : LocalsWait operands function.kinds os
   pub walked : count sort.Iterator os ≡ walks (numbers_of p) r.frame.labels
-  pub fresh : count sort.Array os ≤ array_kinds (parameters_at (calls_of p) called)
-  pub freed : count sort.Array os ≤ freed_next place
+  pub given : Codes
+  pub is_call : HasCall p function called given
+  pub fresh : count sort.Array os ≤ missing_arrays (parameters_at (calls_of p) called) given
+  pub freed : freed_next place ≡ missing_arrays (parameters_at (calls_of p) called) given
 
 -- outside of all callers stands the frame in which `main` is called, which holds nothing
 abbrev pub first_caller : CallerForm

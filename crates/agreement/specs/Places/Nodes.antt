@@ -1,10 +1,7 @@
 -- Expressions of a script: how many there are in each function, each part of an expression counted too, and in all that stands in no function.
 use Rattle.std.specs.Prelude.{ℕ, suc, ◌+◌, List, [], ◌∷◌, ◌++◌, map, Option, Some, None}
-use Rattle.awk_grammar.specs.Tree.{Tree, Leaf, Length, Var, Index, Field, Group, Call, Apply, Unary, Pre, Post, Bin, Has, HasList, Cond, Get, GetInto, GetFrom, GetIntoFrom, Trees, NoTree, Then}
-use Rattle.awk_grammar.specs.Stmt as stmt
-use Rattle.awk_grammar.specs.Stmt.{Args, NoArgs, Listed, Enclosed, Target, NoTarget, Written, Appended, Plain, Eval, Put, Delete, Clear, Stmt, Stmts, NoStmt, And}
-use Rattle.awk_grammar.specs.Item as item
-use Rattle.awk_grammar.specs.Item.{Pattern, One, Between, Item}
+use Rattle.awk_grammar.specs.Trees.{Tree, Leaf, Length, Var, Index, Field, Group, Call, Apply, Unary, Pre, Post, Bin, Has, HasList, Cond, Get, GetInto, GetFrom, GetIntoFrom, Trees, NoTree, Then, Args, NoArgs, Listed, Enclosed, Target, NoTarget, Written, Appended, Plain, Eval, Put, Delete, Clear, Stmt, Stmts, NoStmt, And, Pattern, One, Between, Item}
+use Rattle.awk_grammar.specs.Trees as stmt
 use Rattle.sem_scripts.specs.Names.{Function, Resolved}
 
 abbrev mutual
@@ -81,13 +78,13 @@ pattern_nodes (Between t u) = nodes t + nodes u
 
 -- of what stands in no function
 abbrev pub item_nodes : Item → ℕ
-item_nodes (item.Function f ps ss) = 0
-item_nodes (item.Begin ss) = stmts_nodes ss
-item_nodes (item.End ss) = stmts_nodes ss
-item_nodes (item.Always ss) = stmts_nodes ss
-item_nodes (item.When p ss) = pattern_nodes p + stmts_nodes ss
-item_nodes (item.Lone p) = pattern_nodes p
-item_nodes item.Nothing = 0
+item_nodes (stmt.Function f ps ss) = 0
+item_nodes (stmt.Begin ss) = stmts_nodes ss
+item_nodes (stmt.End ss) = stmts_nodes ss
+item_nodes (stmt.Always ss) = stmts_nodes ss
+item_nodes (stmt.When p ss) = pattern_nodes p + stmts_nodes ss
+item_nodes (stmt.Lone p) = pattern_nodes p
+item_nodes stmt.Nothing = 0
 
 abbrev pub items_nodes : List Item → ℕ
 items_nodes [] = 0

@@ -17,7 +17,7 @@ use Rattle.mid_program.specs.declared.mid.Operation.TheVariants.{Inline}
 use Rattle.mid_program.specs.Mid.{At, Boxed, Code, Do, End, Eval, Get, Global, Kind, NoStep, Number, Over, Program, Set, Steps, Then, Unboxed}
 use Rattle.lower_model.specs.Emission.{all_emitted, emitted}
 use Rattle.lower_model.specs.Functions.{main_bases}
-use Rattle.host_imports.specs.Imports.{import_number}
+use Rattle.host_imports.specs.Names.{import_number}
 use Rattle.lower_model.specs.Modules.{called_imports, imports_of, module_of, renumbered}
 use Rattle.lower_model.specs.Places.{local_types}
 use Rattle.lower_model.specs.Small.{ask_row, emit, minus_one, text_beside}

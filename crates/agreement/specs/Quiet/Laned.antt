@@ -3,7 +3,7 @@ use Rattle.std.specs.Prelude.{◌≡◌, ℕ, true, false, List, [], length}
 use Rattle.wasm_types.specs.Syntax.{Instructions}
 use Rattle.wasm_model.specs.Machines.{Conf}
 use Rattle.host_step.specs.HostState.{HostState}
-use Rattle.awk_grammar.specs.Tree.{Tree}
+use Rattle.awk_grammar.specs.Trees.{Tree}
 use Rattle.mid_program.specs.Mid.{Code, Eval, Global, Kind, Parameter, Program, Set, Slot, Step, Steps, Then, Unboxed}
 use Rattle.sem_scripts.specs.Names.{Scope, variable_of}
 use Rattle.mid_program.specs.Sorted.{has_kind, kinds_of}

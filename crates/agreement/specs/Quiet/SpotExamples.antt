@@ -6,13 +6,9 @@ use Rattle.awk_text.specs.Number.{numerator, denominator}
 use Rattle.awk_text.specs.Reading.{numeral_at, sign_at, fraction_at, exponent_at}
 use Rattle.awk_tokens.specs.Words.{keywords, builtins, left_out_words}
 use Rattle.awk_grammar.specs.Kinds.{special_arrays, special_scalars}
-use Rattle.awk_grammar.specs.Item as item
-use Rattle.awk_grammar.specs.Item.{Item}
-use Rattle.awk_grammar.specs.Stmt as stmt
-use Rattle.awk_grammar.specs.Stmt.{Stmts}
+use Rattle.awk_grammar.specs.Trees.{Item, Stmts, Tree}
 use Rattle.awk_grammar.specs.Token as token
-use Rattle.awk_grammar.specs.Tree as tree
-use Rattle.awk_grammar.specs.Tree.{Tree}
+use Rattle.awk_grammar.specs.Trees as tree
 use Rattle.sem_scripts.specs.Kinds.{resolved}
 use Rattle.sem_scripts.specs.Names.{variable_of}
 use Rattle.mid_program.specs.Texts.{texts_in, all_texts, stmt_texts, stmts_texts}
@@ -26,17 +22,17 @@ n_plus_one = tree.Bin (tree.Add token.Plus) (tree.Var (codes "n")) (tree.Leaf (t
 
 -- BEGIN { n = n + 1; .. }
 abbrev script : Stmts → List Item
-script rest = item.Begin (stmt.And (assigns (codes "n") n_plus_one) rest) ∷ []
+script rest = tree.Begin (tree.And (assigns (codes "n") n_plus_one) rest) ∷ []
 
 abbrev IsNumbers : List Item → Type 0
 IsNumbers items = IsNumberName (resolved items) (OfBegin []) (λ i. ⊥) (variable_of (scope_at (resolved items) (OfBegin [])) (codes "n"))
 
 -- n = n + 1 again
-pub numbers : IsNumbers (script (stmt.And (assigns (codes "n") n_plus_one) stmt.NoStmt))
+pub numbers : IsNumbers (script (tree.And (assigns (codes "n") n_plus_one) tree.NoStmt))
 unfolding special_arrays special_scalars texts_in all_texts stmt_texts stmts_texts code_of codes_of key_code kept_code argument_codes truncated_code applied_code step_code steps_code numeral_at sign_at fraction_at exponent_at numerator denominator digits unescaped escaped octal keywords builtins left_out_words
 numbers = (refl, λ h. h)
 
 -- n = n n
-pub texts_too : IsNumbers (script (stmt.And (assigns (codes "n") (tree.Bin tree.Join (tree.Var (codes "n")) (tree.Var (codes "n")))) stmt.NoStmt)) → ⊥
+pub texts_too : IsNumbers (script (tree.And (assigns (codes "n") (tree.Bin tree.Join (tree.Var (codes "n")) (tree.Var (codes "n")))) tree.NoStmt)) → ⊥
 unfolding special_arrays special_scalars texts_in all_texts stmt_texts stmts_texts code_of codes_of key_code kept_code argument_codes truncated_code applied_code step_code steps_code numeral_at sign_at fraction_at exponent_at numerator denominator digits unescaped escaped octal keywords builtins left_out_words
 texts_too h = h

@@ -1,9 +1,8 @@
 -- Statements `name = Expr` of a script on numbers alone, by where they stand in the script.
 use Rattle.std.specs.Prelude.{◌≡◌, ℕ, List, [], ◌∷◌}
-use Rattle.awk_grammar.specs.Stmt as stmt
-use Rattle.awk_grammar.specs.Stmt.{And, Stmt, Stmts}
+use Rattle.awk_grammar.specs.Trees as stmt
+use Rattle.awk_grammar.specs.Trees.{And, Stmt, Stmts, Bin, Other, Tree, Var}
 use Rattle.awk_grammar.specs.Token.{Assign, Set as Put}
-use Rattle.awk_grammar.specs.Tree.{Bin, Other, Tree, Var}
 use Rattle.wasm_model.specs.Machines.{Conf}
 use Rattle.host_step.specs.HostState.{HostState}
 use Rattle.mid_program.specs.Mid.{Kind, parameters_at}

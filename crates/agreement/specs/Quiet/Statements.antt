@@ -1,8 +1,8 @@
 -- Statements `name = Expr` of scripts, where Expr has only number constants, names, groups, `+`, `-` and `*`, and the code that they have.
 use Rattle.std.specs.Prelude.{◌≡◌, ℕ, false, List}
-use Rattle.awk_grammar.specs.Stmt as stmt
+use Rattle.awk_grammar.specs.Trees as stmt
 use Rattle.awk_grammar.specs.Token.{Assign, Mul, Number as Numeral, Set as Put, Sign, Signed, Times}
-use Rattle.awk_grammar.specs.Tree.{Add, Bin, Group, Leaf, Other, Tree, Unary, Var}
+use Rattle.awk_grammar.specs.Trees.{Add, Bin, Group, Leaf, Other, Tree, Unary, Var}
 use Rattle.folding.specs.Folding.{reduced, same}
 use Rattle.mid_program.specs.Mid.{Code, Do, Eval, Global, Kind, Parameter, Set, Slot, Step}
 use Rattle.sem_scripts.specs.Names.{Reserved, Scope, Variable, variable_of}

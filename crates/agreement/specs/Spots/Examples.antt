@@ -10,12 +10,9 @@ use Rattle.world_core.specs.declared.world.Ending.TheVariants.{End}
 use Rattle.sem_primitives.specs.Jobs.{JobForm}
 use Rattle.awk_tokens.specs.Words.{keywords, builtins, left_out_words}
 use Rattle.awk_grammar.specs.Kinds.{special_arrays, special_scalars}
-use Rattle.awk_grammar.specs.Item as item
-use Rattle.awk_grammar.specs.Item.{Item}
-use Rattle.awk_grammar.specs.Stmt as stmt
-use Rattle.awk_grammar.specs.Stmt.{Stmt}
+use Rattle.awk_grammar.specs.Trees.{Item, Stmt}
 use Rattle.awk_grammar.specs.Token as token
-use Rattle.awk_grammar.specs.Tree as tree
+use Rattle.awk_grammar.specs.Trees as tree
 use Rattle.sem_scripts.specs.Kinds.{resolved}
 use Rattle.sem_scripts.specs.Meaning.{asked, value_of, values_of, key_of, place_of, passed, truncated_of, applied}
 use Rattle.sem_scripts.specs.ScriptRun.{first_assigned, records_done, Ended, setting_of}
@@ -27,17 +24,17 @@ use Rattle.agreement.specs.Spots.Spots.{Part, Whole, First, Looping, Between, Te
 -- B: block, E: empty, S: plain, I: `if`, W: `while`, D: `do`, F: `for`, K: `for` over keys, J: `break`, `continue`, `next` and `nextfile`, R:
 -- `return` and `exit`
 abbrev statement_letter : Stmt → List ℕ
-statement_letter (stmt.Block ss) = codes "B"
-statement_letter stmt.Empty = codes "E"
-statement_letter (stmt.Simple p) = codes "S"
-statement_letter (stmt.If c s) = codes "I"
-statement_letter (stmt.IfElse c s t) = codes "I"
-statement_letter (stmt.While c s) = codes "W"
-statement_letter (stmt.Do s c) = codes "D"
-statement_letter (stmt.For i c p s) = codes "F"
-statement_letter (stmt.ForIn k a s) = codes "K"
-statement_letter (stmt.Jumping j) = codes "J"
-statement_letter (stmt.Leave l t) = codes "R"
+statement_letter (tree.Block ss) = codes "B"
+statement_letter tree.Empty = codes "E"
+statement_letter (tree.Simple p) = codes "S"
+statement_letter (tree.If c s) = codes "I"
+statement_letter (tree.IfElse c s t) = codes "I"
+statement_letter (tree.While c s) = codes "W"
+statement_letter (tree.Do s c) = codes "D"
+statement_letter (tree.For i c p s) = codes "F"
+statement_letter (tree.ForIn k a s) = codes "K"
+statement_letter (tree.Jumping j) = codes "J"
+statement_letter (tree.Leave l t) = codes "R"
 
 abbrev part_letter : Stmt → Part → List ℕ
 part_letter s Whole = statement_letter s
@@ -85,8 +82,8 @@ number text = tree.Leaf (token.Number text)
 abbrev name : List ℕ → tree.Tree
 name x = tree.Var x
 
-abbrev set : List ℕ → tree.Tree → stmt.Plain
-set x t = stmt.Eval (tree.Bin (tree.Other (token.Assign token.Set)) (name x) t)
+abbrev set : List ℕ → tree.Tree → tree.Plain
+set x t = tree.Eval (tree.Bin (tree.Other (token.Assign token.Set)) (name x) t)
 
 abbrev less : tree.Tree → tree.Tree → tree.Tree
 less a b = tree.Bin (tree.Other (token.Compare token.Less)) a b
@@ -95,14 +92,14 @@ less a b = tree.Bin (tree.Other (token.Compare token.Less)) a b
 -- BEGIN { for (i = 0; i < 2; i++) if (i) n = f(i); while (1 < n) n--; do n++; while (n < 3) }
 abbrev loops : List Item
 loops =
-    item.Function (codes "f") ((codes "x") ∷ []) (stmt.And
-    (stmt.Leave stmt.Return (Some (tree.Bin (tree.Add token.Plus) (name (codes "x")) (number (codes "1"))))) stmt.NoStmt)
-    ∷ item.Begin
-    (stmt.And (stmt.For (Some (set (codes "i") (number (codes "0")))) (Some (less (name (codes "i")) (number (codes "2"))))
-    (Some (stmt.Eval (tree.Post token.Increment (name (codes "i")))))
-    (stmt.If (name (codes "i")) (stmt.Simple (set (codes "n") (tree.Call (codes "f") (tree.Then (name (codes "i")) tree.NoTree))))))
-    (stmt.And (stmt.While (less (number (codes "1")) (name (codes "n"))) (stmt.Simple (stmt.Eval (tree.Post token.Decrement (name (codes "n"))))))
-    (stmt.And (stmt.Do (stmt.Simple (stmt.Eval (tree.Post token.Increment (name (codes "n"))))) (less (name (codes "n")) (number (codes "3")))) stmt.NoStmt)))
+    tree.Function (codes "f") ((codes "x") ∷ []) (tree.And
+    (tree.Leave tree.Return (Some (tree.Bin (tree.Add token.Plus) (name (codes "x")) (number (codes "1"))))) tree.NoStmt)
+    ∷ tree.Begin
+    (tree.And (tree.For (Some (set (codes "i") (number (codes "0")))) (Some (less (name (codes "i")) (number (codes "2"))))
+    (Some (tree.Eval (tree.Post token.Increment (name (codes "i")))))
+    (tree.If (name (codes "i")) (tree.Simple (set (codes "n") (tree.Call (codes "f") (tree.Then (name (codes "i")) tree.NoTree))))))
+    (tree.And (tree.While (less (number (codes "1")) (name (codes "n"))) (tree.Simple (tree.Eval (tree.Post token.Decrement (name (codes "n"))))))
+    (tree.And (tree.Do (tree.Simple (tree.Eval (tree.Post token.Increment (name (codes "n"))))) (less (name (codes "n")) (number (codes "3")))) tree.NoStmt)))
     ∷ []
 
 pub in_loops : marked_run letters (resolved loops) (setting_of no_job (reading []) empty) 40 ≡ Ended 0 (puts Standard (codes "BF12I-+ISR+WSDS+?S+?"))
@@ -112,8 +109,8 @@ in_loops = refl
 -- /b/, /c/ { next } { n++ }, on four records
 abbrev ranges : List Item
 ranges =
-    item.When (item.Between (tree.Leaf (token.Ere (codes "/b/"))) (tree.Leaf (token.Ere (codes "/c/")))) (stmt.And (stmt.Jumping stmt.Next) stmt.NoStmt)
-    ∷ item.Always (stmt.And (stmt.Simple (stmt.Eval (tree.Post token.Increment (name (codes "n"))))) stmt.NoStmt)
+    tree.When (tree.Between (tree.Leaf (token.Ere (codes "/b/"))) (tree.Leaf (token.Ere (codes "/c/")))) (tree.And (tree.Jumping tree.Next) tree.NoStmt)
+    ∷ tree.Always (tree.And (tree.Simple (tree.Eval (tree.Post token.Increment (name (codes "n"))))) tree.NoStmt)
     ∷ []
 
 pub in_ranges : marked_run letters (resolved ranges) (setting_of no_job (reading (codes "a\nb\nc\na\n")) empty) 40
@@ -124,8 +121,8 @@ in_ranges = refl
 -- { n++; nextfile; n = 0 }, on two records: the second is given up
 abbrev next_files : List Item
 next_files =
-    item.Always (stmt.And (stmt.Simple (stmt.Eval (tree.Post token.Increment (name (codes "n")))))
-    (stmt.And (stmt.Jumping stmt.NextFile) (stmt.And (stmt.Simple (set (codes "n") (number (codes "0")))) stmt.NoStmt)))
+    tree.Always (tree.And (tree.Simple (tree.Eval (tree.Post token.Increment (name (codes "n")))))
+    (tree.And (tree.Jumping tree.NextFile) (tree.And (tree.Simple (set (codes "n") (number (codes "0")))) tree.NoStmt)))
     ∷ []
 
 pub in_next_files : marked_run letters (resolved next_files) (setting_of no_job (reading (codes "a\nb\n")) empty) 40 ≡ Ended 0 (puts Standard (codes "BSJ/>"))

@@ -1,8 +1,7 @@
 -- The spots of a script in the order in which its module's code has their places: function by function, `main` last. A statement comes before what stands in
 -- it, and an `if` without `else` ends with its second way. In a `for` the third part comes after the body, and so does the test of a `do`.
 use Rattle.std.specs.Prelude.{ℕ, zero, suc, ◌+◌, List, [], ◌∷◌, ◌++◌, map, Option, Some, None, slice_get, unwrap_or}
-use Rattle.awk_grammar.specs.Item.{One, Between as Range, Pattern, Item, Function, Begin, End, Always, When, Lone}
-use Rattle.awk_grammar.specs.Stmt.{Plain, NextFile, Stmt, Block, Empty, Simple, If, IfElse, While, Do, For, ForIn, Jumping, Leave, Stmts, NoStmt, And}
+use Rattle.awk_grammar.specs.Trees.{One, Between as Range, Pattern, Item, Function, Begin, End, Always, When, Lone, Plain, NextFile, Stmt, Block, Empty, Simple, If, IfElse, While, Do, For, ForIn, Jumping, Leave, Stmts, NoStmt, And}
 use Rattle.sem_scripts.specs.Items.{print_record, pattern_ranges}
 use Rattle.agreement.specs.Spots.Spots.{Frame, Before, Within, AfterElse, Home, OfBegin, OfEnd, OfRecord, OfFunction, Whole, First, Looping, Between, Testing, Unless, GivesUp, Leaves, Asked, Unmet, Opening, Already, FirstTest, Opens, StaysClosed, Inside, Entered, LastTest, Closes, StaysOpen, StatementPath, Of, OfPattern}
 

@@ -4,10 +4,9 @@ use Rattle.awk_tokens.specs.Cutting.{Spelled}
 use Rattle.awk_tokens.specs.declared.token.Punctuator.TheVariants as marks
 use Rattle.awk_tokens.specs.declared.token.TokenKind.TheVariants.{Name, Punctuator}
 use Rattle.awk_grammar.specs.Token.{OpenBrace}
-use Rattle.awk_grammar.specs.Tree as tree
-use Rattle.awk_grammar.specs.Tree.{Tree}
-use Rattle.awk_grammar.specs.Stmt.{Stmt, Stmts, Block, Simple, Eval, If, IfElse, While, Do, For, Leave, Return, NoStmt, And}
-use Rattle.awk_grammar.specs.Item.{Item, One, Between, Function, Always, Begin, End, When, Lone, print_script}
+use Rattle.awk_grammar.specs.Trees as tree
+use Rattle.awk_grammar.specs.Trees.{Tree, Stmt, Stmts, Block, Simple, Eval, If, IfElse, While, Do, For, Leave, Return, NoStmt, And, Item, One, Between, Function, Always, Begin, End, When, Lone}
+use Rattle.awk_grammar.specs.Item.{print_script}
 use Rattle.agreement.specs.Spots.InOrder.{spots_in}
 use Rattle.agreement.specs.Spots.Spots.{Before, OfRecord, Whole, Of}
 use Rattle.agreement.specs.Spots.SpotTexts.{IsLineOfSpot, spot_text}

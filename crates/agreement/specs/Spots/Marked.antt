@@ -4,9 +4,7 @@
 use Rattle.std.specs.Prelude.{ℕ, zero, suc, ◌+◌, true, false, if◌then◌else◌, List, [], ◌∷◌, map, Option, Some, None}
 use Rattle.world_core.specs.WorldState.{Action}
 use Rattle.sem_primitives.specs.declared.table.Primitive.TheVariants as row
-use Rattle.awk_grammar.specs.Item.{One, Between as Range, Item, Begin, End, Always, When, Lone, Pattern}
-use Rattle.awk_grammar.specs.Stmt.{Plain, NextFile, Stmt, Block, Empty, Simple, If, IfElse, While, Do, For, ForIn, Jumping, Leave, Stmts, NoStmt, And}
-use Rattle.awk_grammar.specs.Tree.{Tree}
+use Rattle.awk_grammar.specs.Trees.{One, Between as Range, Item, Begin, End, Always, When, Lone, Pattern, Plain, NextFile, Stmt, Block, Empty, Simple, If, IfElse, While, Do, For, ForIn, Jumping, Leave, Stmts, NoStmt, And, Tree}
 use Rattle.sem_scripts.specs.Items.{top, print_record, pattern_ranges, range_open, tested, reads_records}
 use Rattle.sem_scripts.specs.Meaning.{Calls}
 use Rattle.sem_scripts.specs.Names.{Resolved, Scope, function_at, variable_of, array_of}

@@ -5,10 +5,8 @@ use Rattle.std.specs.Prelude.{ℕ, zero, suc, ◌+◌, true, false, if◌then◌
 use Rattle.wasm_types.specs.Syntax.{Instructions, Done}
 use Rattle.wasm_types.specs.declared.instr.Simple.TheVariants.{Br}
 use Rattle.sem_primitives.specs.declared.table.Primitive.TheVariants as row
-use Rattle.awk_grammar.specs.Item.{One, Between as Range, Pattern}
-use Rattle.awk_grammar.specs.Stmt as stmt
-use Rattle.awk_grammar.specs.Stmt.{Stmt}
-use Rattle.awk_grammar.specs.Tree.{Tree}
+use Rattle.awk_grammar.specs.Trees.{One, Between as Range, Pattern, Stmt, Tree}
+use Rattle.awk_grammar.specs.Trees as stmt
 use Rattle.folding.specs.Folding.{same, reduced, fold}
 use Rattle.sem_scripts.specs.Items.{top, pattern_ranges}
 use Rattle.mid_program.specs.Mid.{Code, Do, End, Eval, IsOpen, Mark, Next, Program, Slot, Step, Block, If, Loop, Steps, NoStep, Then, parameters_at}

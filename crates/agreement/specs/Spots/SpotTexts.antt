@@ -3,9 +3,10 @@
 use Rattle.std.specs.Prelude.{◌≡◌, ℕ, suc, ◌-◌, Bool, true, false, if◌then◌else◌, List, [], ◌∷◌, ◌++◌, length, Option, Some, slice_get, unwrap_or}
 use Rattle.awk_tokens.specs.Cutting.{Spelled}
 use Rattle.awk_grammar.specs.Token.{ElseWord, WhileWord, Token, Open, Close, CloseBrace, Semicolon, Key}
-use Rattle.awk_grammar.specs.Tree.{Tree, print}
-use Rattle.awk_grammar.specs.Stmt.{Stmt, IfElse, Do, For, Stmts, print_maybe, print_maybe_plain, print_stmt, print_stmts}
-use Rattle.awk_grammar.specs.Item.{Between as Range, Pattern, Item, Function, Lone, print_body, print_pattern, print_script}
+use Rattle.awk_grammar.specs.Tree.{print}
+use Rattle.awk_grammar.specs.Trees.{Tree, Stmt, IfElse, Do, For, Stmts, Between as Range, Pattern, Item, Function, Lone}
+use Rattle.awk_grammar.specs.Stmt.{print_maybe, print_maybe_plain, print_stmt, print_stmts}
+use Rattle.awk_grammar.specs.Item.{print_body, print_pattern, print_script}
 use Rattle.agreement.specs.Spots.Spots.{Frame, Before, Within, AfterElse, Home, OfBegin, OfEnd, OfRecord, OfFunction, Part, First, Looping, Between, Testing, PatternPart, Inside, Entered, LastTest, Closes, StaysOpen, StatementPath, Of, OfPattern}
 
 -- the test of a `do`

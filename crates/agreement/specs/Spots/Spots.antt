@@ -1,7 +1,6 @@
 -- Where a statement stands in a script, and which of its parts a module does by themselves.
 use Rattle.std.specs.Prelude.{ℕ, List, Option}
-use Rattle.awk_grammar.specs.Item.{Item, Pattern}
-use Rattle.awk_grammar.specs.Stmt.{Stmt, Stmts}
+use Rattle.awk_grammar.specs.Trees.{Item, Pattern, Stmt, Stmts}
 
 -- what a statement stands in, one step outwards
 pub data Frame : Type 0 where

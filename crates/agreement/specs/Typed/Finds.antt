@@ -3,7 +3,8 @@ use Rattle.std.specs.Prelude.{ℕ, suc, List, [], ◌∷◌, Option, Some, None,
 use Rattle.wasm_types.specs.Syntax.{Signature}
 use Rattle.wasm_model.specs.Hosts.{Finds}
 use Rattle.sem_scripts.specs.Names.{same_name}
-use Rattle.host_imports.specs.Imports.{imports, import_name, import_type, module_name}
+use Rattle.host_imports.specs.Imports.{imports, import_type, module_name}
+use Rattle.host_imports.specs.Names.{import_name}
 use Rattle.host_imports.specs.declared.import.Import.{Import}
 
 -- among imports that are numbered from n on

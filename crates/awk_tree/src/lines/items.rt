@@ -1,6 +1,7 @@
 //! How many tokens stand before each place of items.
 ghost use Rattle.std.specs.Prelude.{◌≡◌, [], ◌∷◌, ◌++◌, IfOk, OnOk, length, option_map, slice_get};
-ghost use Rattle.awk_grammar.specs.Item.{Between, Lone, When, print_item, print_pattern};
+ghost use Rattle.awk_grammar.specs.Item.{print_item, print_pattern};
+ghost use Rattle.awk_grammar.specs.Trees.{Between, Lone, When};
 ghost use Rattle.awk_grammar.specs.View.{view};
 ghost use Rattle.awk_grammar.specs.Lexeme.{lexemes};
 ghost use Rattle.awk_grammar.specs.ViewStmt.{view_item, view_items, view_names, view_pattern, view_stmts};

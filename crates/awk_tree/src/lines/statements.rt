@@ -1,7 +1,8 @@
 //! How many tokens stand before each place of statements, in the order of the module's code.
 ghost use Rattle.std.specs.Prelude.{◌≡◌, [], ◌∷◌, ◌++◌, IfOk, OnOk, length};
 ghost use Rattle.awk_grammar.specs.Token.{Key, WhileWord};
-ghost use Rattle.awk_grammar.specs.Stmt.{Jumping, print_stmt, print_stmts};
+ghost use Rattle.awk_grammar.specs.Stmt.{print_stmt, print_stmts};
+ghost use Rattle.awk_grammar.specs.Trees.{Jumping};
 ghost use Rattle.awk_grammar.specs.Item.{print_body};
 ghost use Rattle.awk_grammar.specs.Lexeme.{lexemes};
 ghost use Rattle.awk_grammar.specs.View.{view};

@@ -1,4 +1,6 @@
 //! What is said of runs that were cut off.
+ghost use Rattle.std.specs.Prelude.{◌≡◌};
+ghost use Rattle.run_report.specs.Explanations.{form_of, end_explanation};
 ghost use Rattle.run_report.specs.Topics.{Shows};
 ghost use Rattle.run_report.specs.declared.topic.Topic.TheVariants as Topic;
 
@@ -28,7 +30,8 @@ const NO_MEMORY: Explanation = Explanation {
 
 /// What is said of such an end.
 pub(crate) fn end_explanation(end: EndTopic) -> Explanation
-    ensures { Shows (Topic.End end) result.shown.now }
+    ensures said { form_of result ≡ end_explanation end }
+    ensures shown { Shows (Topic.End end) result.shown.now }
 {
     match end {
         EndTopic::OutOfSteps => OUT_OF_STEPS,

@@ -1,4 +1,6 @@
 //! What is said of the faults of a run.
+ghost use Rattle.std.specs.Prelude.{◌≡◌};
+ghost use Rattle.run_report.specs.Explanations.{form_of, fault_explanation};
 ghost use Rattle.run_report.specs.Topics.{Shows};
 ghost use Rattle.run_report.specs.declared.topic.Topic.TheVariants as Topic;
 
@@ -119,7 +121,8 @@ const BAD_ASSIGNMENT: Explanation = Explanation {
 
 /// What is said of a fault.
 pub(crate) fn fault_explanation(fault: Fault) -> Explanation
-    ensures { Shows (Topic.Fault fault) result.shown.now }
+    ensures said { form_of result ≡ fault_explanation fault }
+    ensures shown { Shows (Topic.Fault fault) result.shown.now }
 {
     match fault {
         Fault::Range => RANGE,

@@ -1,4 +1,6 @@
 //! What is said of files that the command line names.
+ghost use Rattle.std.specs.Prelude.{◌≡◌};
+ghost use Rattle.run_report.specs.Explanations.{form_of, file_explanation};
 ghost use Rattle.run_report.specs.Topics.{Shows};
 ghost use Rattle.run_report.specs.declared.topic.Topic.TheVariants as Topic;
 
@@ -21,7 +23,8 @@ const CANNOT_WRITE: Explanation = Explanation {
 
 /// What is said of such a file.
 pub(crate) fn file_explanation(fault: FileFault) -> Explanation
-    ensures { Shows (Topic.File fault) result.shown.now }
+    ensures said { form_of result ≡ file_explanation fault }
+    ensures shown { Shows (Topic.File fault) result.shown.now }
 {
     match fault {
         FileFault::CannotRead => CANNOT_READ,

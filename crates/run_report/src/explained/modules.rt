@@ -1,4 +1,6 @@
 //! What is said of modules that are refused.
+ghost use Rattle.std.specs.Prelude.{◌≡◌};
+ghost use Rattle.run_report.specs.Explanations.{form_of, module_explanation};
 ghost use Rattle.run_report.specs.Topics.{Shows};
 ghost use Rattle.run_report.specs.declared.topic.Topic.TheVariants as Topic;
 
@@ -98,7 +100,8 @@ const SEGMENT_BOUNDS: Explanation = Explanation {
 
 /// What is said of a refusal.
 pub(crate) fn module_explanation(refusal: ModuleTopic) -> Explanation
-    ensures { Shows (Topic.Module refusal) result.shown.now }
+    ensures said { form_of result ≡ module_explanation refusal }
+    ensures shown { Shows (Topic.Module refusal) result.shown.now }
 {
     match refusal {
         ModuleTopic::BadHeader => BAD_HEADER,

@@ -1,4 +1,6 @@
 //! What is said of scripts that are refused.
+ghost use Rattle.std.specs.Prelude.{◌≡◌};
+ghost use Rattle.run_report.specs.Explanations.{form_of, script_explanation};
 ghost use Rattle.run_report.specs.Topics.{Shows};
 ghost use Rattle.run_report.specs.declared.topic.Topic.TheVariants as Topic;
 
@@ -112,7 +114,8 @@ const KIND_CLASH: Explanation = Explanation {
 
 /// What is said of a refusal.
 pub(crate) fn script_explanation(refusal: ScriptTopic) -> Explanation
-    ensures { Shows (Topic.Script refusal) result.shown.now }
+    ensures said { form_of result ≡ script_explanation refusal }
+    ensures shown { Shows (Topic.Script refusal) result.shown.now }
 {
     match refusal {
         ScriptTopic::TooLarge => TOO_LARGE,

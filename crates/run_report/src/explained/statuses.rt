@@ -1,4 +1,6 @@
 //! What is said of exit statuses.
+ghost use Rattle.std.specs.Prelude.{◌≡◌};
+ghost use Rattle.run_report.specs.Explanations.{form_of, status_explanation};
 ghost use Rattle.run_report.specs.Topics.{Shows};
 ghost use Rattle.run_report.specs.declared.topic.Topic.TheVariants as Topic;
 
@@ -63,7 +65,8 @@ const LINE: Explanation = Explanation {
 
 /// What is said of a status.
 pub(crate) fn status_explanation(status: StatusTopic) -> Explanation
-    ensures { Shows (Topic.Status status) result.shown.now }
+    ensures said { form_of result ≡ status_explanation status }
+    ensures shown { Shows (Topic.Status status) result.shown.now }
 {
     match status {
         StatusTopic::Own => OWN,

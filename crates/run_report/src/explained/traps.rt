@@ -1,4 +1,6 @@
 //! What is said of traps.
+ghost use Rattle.std.specs.Prelude.{◌≡◌};
+ghost use Rattle.run_report.specs.Explanations.{form_of, trap_explanation};
 ghost use Rattle.run_report.specs.Topics.{Shows};
 ghost use Rattle.run_report.specs.declared.topic.Topic.TheVariants as Topic;
 
@@ -77,7 +79,8 @@ const BAD_ARGUMENT: Explanation = Explanation {
 
 /// What is said of a trap.
 pub(crate) fn trap_explanation(kind: TrapKind) -> Explanation
-    ensures { Shows (Topic.Trap kind) result.shown.now }
+    ensures said { form_of result ≡ trap_explanation kind }
+    ensures shown { Shows (Topic.Trap kind) result.shown.now }
 {
     match kind {
         TrapKind::Unreachable => UNREACHABLE,

@@ -1,4 +1,4 @@
-use Rattle.awk_grammar.specs.Tree.{Has}
+use Rattle.awk_grammar.specs.Trees.{Has}
 use Rattle.awk_grammar.specs.View.{view}
 use Rattle.awk_parse.specs.Parsed.{is_read}
 use Rattle.awk_parse.proofs.ParsedLemmas.{then, is_here}

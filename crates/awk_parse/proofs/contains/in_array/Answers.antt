@@ -1,4 +1,4 @@
-use Rattle.awk_grammar.specs.Tree.{HasList}
+use Rattle.awk_grammar.specs.Trees.{HasList}
 use Rattle.awk_grammar.specs.View.{view, views}
 use Rattle.awk_parse.specs.Parsed.{is_read}
 use Rattle.awk_parse.proofs.ParsedLemmas.{then, past, is_here}

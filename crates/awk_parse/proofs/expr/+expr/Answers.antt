@@ -1,6 +1,7 @@
 use Rattle.awk_grammar.specs.Token.{Token}
 use Rattle.std.proofs.Common.{◌-◌, length, Bool, List, true, Some, None, sym, ap, ◌∙◌, arith}
-use Rattle.awk_grammar.specs.Tree.{Tree, Bin, Cond, Var, Index, Call, Group, Whole, LValue, Plain}
+use Rattle.awk_grammar.specs.Tree.{Whole, LValue, Plain}
+use Rattle.awk_grammar.specs.Trees.{Tree, Bin, Cond, Var, Index, Call, Group}
 use Rattle.awk_grammar.specs.Reading.{◌>>=◌, Read, Reader, expr_at, first_at, list_at, bracket_at, close_at, comma_at, colon_at, after, bare, suited, getting, from_by, less_at, indexed_by, index_at, call_by, open_at, applied_by, arguments_at, paren_by, into_by, getline_at}
 use Rattle.awk_grammar.specs.ReadStmt.{open_here}
 use Rattle.awk_grammar.specs.View.{view, views}

@@ -1,5 +1,5 @@
 use Rattle.std.proofs.Common.{◌*◌, ◌+◌, ◌-◌, length}
-use Rattle.awk_grammar.specs.Tree.{Tree, Trees}
+use Rattle.awk_grammar.specs.Trees.{Tree, Trees}
 use Rattle.awk_grammar.specs.Reading.{list_at, climb, expr_at}
 use Rattle.awk_grammar.specs.View.{view, views}
 use Rattle.awk_parse.specs.Parsed.{At, at, Parsed}

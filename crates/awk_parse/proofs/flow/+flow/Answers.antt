@@ -2,7 +2,7 @@ use Rattle.std.proofs.Common.{◌-◌, length, Ok, sym, ap, ◌∙◌, arith}
 use Rattle.awk_grammar.specs.View.{view}
 use Rattle.awk_grammar.specs.Reading.{◌>>=◌, expr_at}
 use Rattle.awk_grammar.specs.ReadStmt.{stmt_at, block_at, if_at, else_at, else_by, simple_at}
-use Rattle.awk_grammar.specs.Stmt.{Block, If, IfElse}
+use Rattle.awk_grammar.specs.Trees.{Block, If, IfElse}
 use Rattle.awk_grammar.specs.ViewStmt.{view_stmts}
 use Rattle.awk_parse.specs.Seen.{seen}
 use Rattle.awk_parse.proofs.ParsedLemmas.{seen_length}

@@ -1,5 +1,5 @@
 use Rattle.std.proofs.Common.{◌*◌, ◌+◌, ◌-◌, length}
-use Rattle.awk_grammar.specs.Stmt.{Stmts}
+use Rattle.awk_grammar.specs.Trees.{Stmts}
 use Rattle.awk_grammar.specs.ReadStmt.{stmts_at, stmt_at}
 use Rattle.awk_grammar.specs.ViewStmt.{view_stmts}
 use Rattle.awk_parse.specs.Parsed.{At, at, Parsed}

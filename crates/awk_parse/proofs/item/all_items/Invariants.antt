@@ -1,5 +1,5 @@
 use Rattle.std.proofs.Common.{◌-◌, List}
-use Rattle.awk_grammar.specs.Item.{Item}
+use Rattle.awk_grammar.specs.Trees.{Item}
 use Rattle.awk_grammar.specs.ReadItem.{script_at}
 use Rattle.awk_grammar.specs.ViewStmt.{view_items}
 use Rattle.awk_parse.specs.Parsed.{At, at, Ends}

@@ -1,6 +1,6 @@
 use Rattle.std.proofs.Common.{true, map, ◌∙◌}
 use Rattle.awk_tokens.specs.Views.{spelled}
-use Rattle.awk_grammar.specs.Item.{Function}
+use Rattle.awk_grammar.specs.Trees.{Function}
 use Rattle.awk_grammar.specs.Lexeme.{spoken_after}
 use Rattle.awk_grammar.specs.ReadItem.{function_at, function_by}
 use Rattle.awk_grammar.specs.ViewStmt.{view_names, view_stmts}

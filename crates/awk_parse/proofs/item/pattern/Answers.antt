@@ -1,5 +1,5 @@
 use Rattle.std.proofs.Common.{true, Ok, refl, ap}
-use Rattle.awk_grammar.specs.Item.{Between}
+use Rattle.awk_grammar.specs.Trees.{Between}
 use Rattle.awk_grammar.specs.Tree.{Whole}
 use Rattle.awk_grammar.specs.View.{view}
 use Rattle.awk_grammar.specs.Reading.{◌>>=◌, comma_at, expr_at}

@@ -1,5 +1,5 @@
 use Rattle.std.proofs.Common.{Ok}
-use Rattle.awk_grammar.specs.Item.{When}
+use Rattle.awk_grammar.specs.Trees.{When}
 use Rattle.awk_grammar.specs.Reading.{◌>>=◌}
 use Rattle.awk_grammar.specs.ReadItem.{body_at, action_at}
 use Rattle.awk_grammar.specs.ViewStmt.{view_pattern}

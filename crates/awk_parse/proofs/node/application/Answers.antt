@@ -1,4 +1,4 @@
-use Rattle.awk_grammar.specs.Tree.{Apply, depths}
+use Rattle.awk_grammar.specs.Trees.{Apply, depths}
 use Rattle.awk_grammar.specs.View.{views}
 use Rattle.awk_grammar.proofs.Views.{view_apply}
 use Rattle.awk_parse.proofs.Lists.{same_depth}

@@ -1,4 +1,4 @@
-use Rattle.awk_grammar.specs.Tree.{Call, depths}
+use Rattle.awk_grammar.specs.Trees.{Call, depths}
 use Rattle.awk_grammar.specs.View.{views}
 use Rattle.awk_grammar.proofs.Views.{view_call}
 use Rattle.awk_parse.proofs.Lists.{same_depth}

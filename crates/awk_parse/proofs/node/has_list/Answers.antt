@@ -1,4 +1,4 @@
-use Rattle.awk_grammar.specs.Tree.{HasList, depth, depths}
+use Rattle.awk_grammar.specs.Trees.{HasList, depth, depths}
 use Rattle.awk_grammar.specs.View.{view, views}
 use Rattle.awk_grammar.proofs.Views.{view_in_list}
 use Rattle.awk_parse.proofs.Lists.{same_depth}

@@ -1,4 +1,4 @@
-use Rattle.awk_grammar.specs.Tree.{depth, depths}
+use Rattle.awk_grammar.specs.Trees.{depth, depths}
 use Rattle.awk_grammar.specs.View.{view, views}
 use Rattle.awk_parse.proofs.Lists.{pushed, pushed_depth}
 use Rattle.awk_parse.proofs.ParsedLemmas.{is_here}

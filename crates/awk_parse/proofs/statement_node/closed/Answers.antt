@@ -1,6 +1,6 @@
 use Rattle.awk_grammar.specs.Reading.{◌>>=◌, expr_at}
 use Rattle.awk_grammar.specs.ReadStmt.{condition_at}
-use Rattle.awk_grammar.specs.Stmt.{Do}
+use Rattle.awk_grammar.specs.Trees.{Do}
 use Rattle.awk_grammar.specs.ViewStmt.{view_stmt}
 use Rattle.awk_parse.specs.Parsed.{is_read}
 use Rattle.awk_parse.proofs.ParsedLemmas.{then, past}

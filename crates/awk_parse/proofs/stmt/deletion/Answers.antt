@@ -1,7 +1,7 @@
 use Rattle.std.proofs.Common.{true, Ok, refl, ap, ◌∙◌}
 use Rattle.awk_grammar.specs.Reading.{◌>>=◌, expr_at, list_at, bracket_at}
 use Rattle.awk_grammar.specs.ReadStmt.{delete_by}
-use Rattle.awk_grammar.specs.Stmt.{Delete}
+use Rattle.awk_grammar.specs.Trees.{Delete}
 use Rattle.awk_parse.specs.Seen.{seen}
 use Rattle.awk_parse.specs.StatementStarts.{deleted_by}
 use Rattle.awk_parse.proofs.StatementStarts.{delete_is}

@@ -1,6 +1,6 @@
 use Rattle.std.proofs.Common.{Ok, sym, ◌∙◌}
 use Rattle.awk_grammar.specs.Reading.{expr_at}
-use Rattle.awk_grammar.specs.Stmt.{Listed}
+use Rattle.awk_grammar.specs.Trees.{Listed}
 use Rattle.awk_grammar.specs.ViewStmt.{view_word}
 use Rattle.awk_parse.proofs.Printed.{args_enclosed, args_listed}
 use Rattle.awk_parse.proofs.ParsedLemmas.{stays, then}

@@ -3,19 +3,15 @@ use Rattle.std.specs.Prelude.{max}
 use Rattle.std.specs.declared.vec.Vec.{Vec}
 use Rattle.std.specs.declared.alloc.Global.{Global}
 use Rattle.host_calls.specs.Forms.{host_form}
-use Rattle.awk_run.specs.Counted.{AreFirsts, places_counted, values_in}
-use Rattle.awk_run.specs.Seen.{OfSource}
-use Rattle.awk_run.specs.Tallied.{rows_of}
+use Rattle.awk_run.specs.Counted.{values_in}
+use Rattle.script_places.specs.Passes.{AreFirsts, places_counted}
+use Rattle.script_places.specs.Sites.{OfSource}
+use Rattle.script_places.specs.Tallies.{rows_of}
 use Rattle.awk_run.proofs.Pausing.{of_some}
-use Rattle.awk_run.proofs.SteppedRuns.{whole_run}
 use Rattle.awk_run.proofs.counting.run_counted.Goals as goal
 
 pub returns-clause-did : goal.returns-clause-did
-returns-clause-did g c =
-    let told = g.W.World.state in
-    let t = c.step_through-end.ensures.tallied in
-    whole_run g.W.World.is_modelled c.args.machine.now.program c.args.machine.now.conf (host_form told c.args.host) c.args.steps c.step_through-end.result.1 t.within
-    c.step_through-end.new.machine.conf (host_form told c.step_through-end.new.host) t.moments c.step_through-end.result.0 t.stepped t.count t.over
+returns-clause-did g c = c.step_through-end.ensures.did
 
 pub returns-clause-counted : goal.returns-clause-counted
 returns-clause-counted g c =

@@ -1,10 +1,10 @@
-use Rattle.std.proofs.Common.{subst}
+use Rattle.std.proofs.Common.{◌≡◌, [], subst}
 use Rattle.std.specs.Prelude.{IfSome}
 use Rattle.host_tables.specs.Starts.{job_of}
 use Rattle.host_values.specs.Findings.{ShownFirst}
 use Rattle.host_calls.specs.Forms.{host_form}
 use Rattle.wasm_types.specs.View.{view_module}
-use Rattle.awk_run.specs.ModuleRun.{RunAnswers}
+use Rattle.awk_run.specs.ModuleRun.{IsGiven, RunAnswers}
 use Rattle.awk_run.specs.Seen.{IsSeenOf}
 use Rattle.awk_run.proofs.Pausing.{of_some}
 use Rattle.awk_run.proofs.Runs.{typed_answers}
@@ -19,10 +19,10 @@ returns-clause-answers g c =
     let after = told c.run_valid_where.result.2 in
     let whole = view_module c.in-Ok.valid in
     let h = c.in-Ok-new.host in
-    typed_answers tells c.args.bytes.now job c.args.steps before after whole c.run_valid_where.result.0 c.in-Ok.ensures.ok
+    typed_answers tells (IsGiven g.W.World.did c.args.world c.run_valid_where.result.2) c.args.bytes.now job c.args.steps before after whole c.run_valid_where.result.0 c.in-Ok.ensures.ok
     (subst (λ w. ShownFirst (host_form told h) job ((told w).readers 0) (told w).outside
-    → RunAnswers tells whole job c.args.steps (told w) c.run_valid_where.result.0 after)
-    c.in-Ok-new.ensures.world (c.run_valid_where.ensures.answers job) c.in-Ok-new.ensures.started)
+    → h.input.files.writers.items ≡ [] → RunAnswers tells (IsGiven g.W.World.did w c.run_valid_where.result.2) whole job c.args.steps (told w) c.run_valid_where.result.0 after)
+    c.in-Ok-new.ensures.world (c.run_valid_where.ensures.answers job) c.in-Ok-new.ensures.started c.in-Ok-new.ensures.none_open)
 
 pub returns-clause-seen : goal.returns-clause-seen
 returns-clause-seen g c =

@@ -1,7 +1,8 @@
 use Rattle.std.proofs.Common.{◌≡◌, [], ◌∷◌, ◌++◌, List, ℕ, ap, ◌∙◌, append_assoc}
 use Rattle.std.proofs.lemmas.Result.{on_ok_weaker}
 use Rattle.awk_grammar.specs.Token.{Token, Open, Close, Comma, InWord, Name}
-use Rattle.awk_grammar.specs.Tree.{Tree, Trees, HasList, print, print_list}
+use Rattle.awk_grammar.specs.Tree.{print, print_list}
+use Rattle.awk_grammar.specs.Trees.{Tree, Trees, HasList}
 use Rattle.awk_grammar.specs.Lexeme.{lexemes}
 use Rattle.awk_grammar.specs.View.{view, views}
 use Rattle.awk_grammar.proofs.Views.{element_is, call_is, apply_is, in_list_is}

@@ -4,8 +4,8 @@ use Rattle.std.specs.Cmp.Lexicographic.{slice_cmp}
 use Rattle.std.proofs.lemmas.Cmp.{nat_list_cmp_total}
 use Rattle.std.proofs.lemmas.List.MinMax.{ranks_by}
 use Rattle.std.proofs.lemmas.List.Sorted.{answers_always}
-use Rattle.host_names.specs.Forms.{pair_of}
-use Rattle.host_names.specs.declared.names.NamedText.{NamedText}
+use Rattle.host_texts.specs.NameForms.{pair_of}
+use Rattle.host_texts.specs.declared.names.NamedText.{NamedText}
 use Rattle.awkwasm.proofs.environment.sorted.Goals as goal
 
 pub returns-clause-order : goal.returns-clause-order

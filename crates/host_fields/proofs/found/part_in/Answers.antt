@@ -4,7 +4,8 @@ use Rattle.memchr.specs.Find.{IsFirstByte}
 use Rattle.sem_primitives.specs.Fields.{parted}
 use Rattle.host_format.specs.Marks.{kept}
 use Rattle.host_format.specs.declared.sep.Plain.{Plain}
-use Rattle.host_format.proofs.Pieces.{kept_none, last_piece, mark_inside, pieces_at, rest_of}
+use Rattle.host_bytes.proofs.Rests.{rest_of}
+use Rattle.host_format.proofs.Pieces.{kept_none, last_piece, mark_inside, pieces_at}
 use Rattle.host_fields.specs.Ends.{is_end, skips_empty}
 use Rattle.host_fields.proofs.Finding.{kept_field, kept_gap, none_later, piece_here, piece_later}
 use Rattle.host_fields.proofs.found.part_in.Goals as goal

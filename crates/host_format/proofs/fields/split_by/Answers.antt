@@ -4,7 +4,8 @@ use Rattle.sem_primitives.specs.Fields.{parted}
 use Rattle.host_format.specs.Marks.{is_mark, kept, pieces_by, skips_empty}
 use Rattle.host_format.specs.Spans.{AreSpans}
 use Rattle.host_format.specs.declared.span.Span.{Span}
-use Rattle.host_format.proofs.Pieces.{all_parts, kept_none, last_piece, mark_inside, pieces_at, rest_of, with_rest}
+use Rattle.host_bytes.proofs.Rests.{rest_of}
+use Rattle.host_format.proofs.Pieces.{all_parts, kept_none, last_piece, mark_inside, pieces_at, with_rest}
 use Rattle.host_format.proofs.fields.split_by.Goals as goal
 
 pub loop-at-preserved : goal.loop-at-preserved

@@ -1,4 +1,4 @@
-use Rattle.host_format.proofs.Grown.{grows_both}
+use Rattle.host_bytes.proofs.Grown.{grows_both}
 use Rattle.host_format.proofs.substitution.put_place.Goals as goal
 
 pub returns : goal.returns

@@ -2,7 +2,7 @@ use Rattle.std.proofs.Common.{ℕ, List, Ok, Option, None, ap, refl, subst, sym,
 use Rattle.std.proofs.lemmas.Result.{err_from_is_err_and}
 use Rattle.ere_match.specs.Ends.{AreDeadEnds}
 use Rattle.host_format.specs.Substitutions.{IsNextPlace, IsReplaced}
-use Rattle.host_format.specs.declared.growing.Growing.{Growing}
+use Rattle.host_bytes.specs.declared.growing.Growing.{Growing}
 use Rattle.host_format.proofs.Left.{outcome_made, outcome_stopped}
 use Rattle.host_format.proofs.substitution.substitute.Goals as goal
 

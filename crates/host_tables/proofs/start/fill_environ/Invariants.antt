@@ -1,7 +1,7 @@
 use Rattle.std.proofs.Common.{◌≡◌, [], pos, take, map}
 use Rattle.std.specs.FinMap as maps
 use Rattle.sem_primitives.specs.Jobs.{environment_in}
-use Rattle.host_names.specs.Forms.{pair_of}
+use Rattle.host_texts.specs.NameForms.{pair_of}
 use Rattle.host_tables.proofs.start.fill_environ.Given as goal
 
 abbrev pub invariant-loop-pair : goal.invariant-loop-pair

@@ -2,8 +2,8 @@ use Rattle.std.proofs.Common.{ℕ, ◌∷◌, [], pos, List, map, codes, ap, ◌
 use Rattle.std.specs.FinMap as maps
 use Rattle.sem_primitives.specs.Jobs.{arguments_from, environment_in}
 use Rattle.host_values.specs.Forms.{Arrays}
-use Rattle.host_names.specs.Forms.{pair_of}
-use Rattle.host_names.specs.declared.names.NamedText.{NamedText}
+use Rattle.host_texts.specs.NameForms.{pair_of}
+use Rattle.host_texts.specs.declared.names.NamedText.{NamedText}
 use Rattle.host_tables.proofs.Starting.{filled_both, nothing, there_first, there_second}
 use Rattle.host_tables.proofs.start.first_arrays.Goals as goal
 

@@ -1,7 +1,8 @@
 use Rattle.std.proofs.Common.{◌≡◌, ◌∙◌, Ok, ap, sym}
 use Rattle.std.proofs.lemmas.Result.{IfOk-weaker}
 use Rattle.ere_syntax.specs.Tree.{Tree}
-use Rattle.sem_primitives.specs.FirstMatch.{expression_of, first_match}
+use Rattle.sem_primitives.specs.FirstMatch.{first_match}
+use Rattle.sem_primitives.specs.Eres.{expression_of}
 use Rattle.sem_primitives.specs.SharedState.{Inner}
 use Rattle.sem_primitives.specs.TextMeaning.{match_row, match_start, with_match}
 use Rattle.sem_primitives.specs.Texts.{counted}

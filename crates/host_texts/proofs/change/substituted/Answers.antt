@@ -1,5 +1,5 @@
 use Rattle.std.proofs.Common.{◌∙◌, ap, sym}
-use Rattle.sem_primitives.specs.FirstMatch.{expression_of}
+use Rattle.sem_primitives.specs.Eres.{expression_of}
 use Rattle.host_texts.proofs.Outcomes.{sub_is, sub_stops}
 use Rattle.host_texts.specs.States.{with_texts}
 use Rattle.host_texts.proofs.change.substituted.Goals as goal

@@ -1,5 +1,5 @@
 use Rattle.std.proofs.Common.{◌∙◌, ap, sym}
-use Rattle.sem_primitives.specs.FirstMatch.{expression_of}
+use Rattle.sem_primitives.specs.Eres.{expression_of}
 use Rattle.host_texts.proofs.Outcomes.{matches_row_is}
 use Rattle.host_texts.proofs.expressions.matched.Goals as goal
 

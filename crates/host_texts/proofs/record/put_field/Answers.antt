@@ -4,7 +4,7 @@ use Rattle.std.specs.Int.{w64}
 use Rattle.std.proofs.lemmas.Int.{to_z-of_z}
 use Rattle.awk_values.specs.Values.{text_of_value}
 use Rattle.host_fields.specs.Calls.{field_set}
-use Rattle.host_format.specs.Outcomes.{IsStopOf}
+use Rattle.host_bytes.specs.Outcomes.{IsStopOf}
 use Rattle.host_texts.specs.States.{with_texts}
 use Rattle.host_texts.proofs.record.put_field.Goals as goal
 

@@ -1,7 +1,7 @@
 use Rattle.std.proofs.Common.{sym, ap, subst, ◌∙◌}
 use Rattle.std.proofs.lemmas.Result.{IfErr-weaker, on_ok_weaker}
 use Rattle.sem_primitives.specs.FieldMeaning.{with_record}
-use Rattle.host_format.specs.Outcomes.{IsStopOf}
+use Rattle.host_bytes.specs.Outcomes.{IsStopOf}
 use Rattle.host_texts.specs.States.{with_texts}
 use Rattle.host_texts.proofs.record.put_whole.Goals as goal
 

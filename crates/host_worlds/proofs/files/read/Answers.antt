@@ -1,5 +1,5 @@
 use Rattle.std.proofs.Common.{subst, sym, ◌∙◌}
-use Rattle.host_format.specs.Outcomes.{IsStopOf}
+use Rattle.host_bytes.specs.Outcomes.{IsStopOf}
 use Rattle.host_streams.specs.declared.reader.FileNext.TheVariants as file
 use Rattle.host_worlds.specs.Givens.{kept_by}
 use Rattle.host_worlds.specs.States.{Finding, Over, with_tables}

@@ -2,7 +2,7 @@ use Rattle.std.proofs.Common.{Ok, ap, subst, sym, ◌∙◌}
 use Rattle.std.proofs.lemmas.Result.{IfErr-weaker, on_ok_weaker}
 use Rattle.sem_primitives.specs.SharedState.{◌>>=◌}
 use Rattle.sem_primitives.specs.declared.answers.InputAnswer.TheVariants.{Read}
-use Rattle.host_format.specs.Outcomes.{IsStopOf}
+use Rattle.host_bytes.specs.Outcomes.{IsStopOf}
 use Rattle.host_worlds.specs.Givens.{kept_by}
 use Rattle.host_worlds.specs.States.{with_input, with_tables}
 use Rattle.host_worlds.proofs.Kept.{stop_then}

@@ -1,7 +1,7 @@
 use Rattle.std.proofs.Common.{◌≤◌, Ok, length, ap, subst, sym, ◌∙◌}
 use Rattle.std.proofs.lemmas.Result.{err_from_is_err_and}
 use Rattle.sem_primitives.specs.OutputMeaning.{formatted_values}
-use Rattle.host_format.specs.Outcomes.{IsStopOf}
+use Rattle.host_bytes.specs.Outcomes.{IsStopOf}
 use Rattle.host_worlds.proofs.Faults.{stop_counts}
 use Rattle.host_worlds.proofs.Lasts.{some_operand}
 use Rattle.host_worlds.proofs.Texts.{refused_given, text_given}

@@ -2,7 +2,8 @@ use Rattle.std.proofs.Common.{◌≡◌, ℕ, suc, ◌+◌, ◌<◌, ◌∷◌, 
 use Rattle.std.proofs.lemmas.List.{drop_all, drop_more}
 use Rattle.wasm_types.specs.Syntax.{ImportForm}
 use Rattle.wasm_types.specs.View.{view_import}
-use Rattle.host_imports.specs.Imports.{import_name, module_name}
+use Rattle.host_imports.specs.Imports.{module_name}
+use Rattle.host_imports.specs.Names.{import_name}
 use Rattle.host_imports.specs.declared.import.Import.{Import}
 use Rattle.lower_model.specs.Modules.{imported_from}
 use Rattle.latched.proofs.LatchedLemmas.{adds_one, leads_all, leads_first, leads_next}

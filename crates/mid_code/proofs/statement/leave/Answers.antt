@@ -1,6 +1,6 @@
 use Rattle.std.proofs.Common.{Option, ap, sym, ◌∙◌}
 use Rattle.std.proofs.lemmas.Result.{IfOk-weaker}
-use Rattle.awk_grammar.specs.Stmt.{Leave}
+use Rattle.awk_grammar.specs.Trees.{Leave}
 use Rattle.awk_grammar.specs.View.{view as tree}
 use Rattle.awk_grammar.specs.ViewStmt.{view_leaving, view_maybe}
 use Rattle.awk_grammar.specs.declared.tree.Expr.{Expr}

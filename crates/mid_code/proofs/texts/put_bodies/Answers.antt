@@ -1,5 +1,5 @@
 use Rattle.std.proofs.Common.{◌+◌, ◌++◌, drop, ap, sym, ◌∙◌}
-use Rattle.awk_grammar.specs.Stmt.{Stmts}
+use Rattle.awk_grammar.specs.Trees.{Stmts}
 use Rattle.awk_resolve.specs.ViewFunctions.{view_functions}
 use Rattle.sem_scripts.specs.Kinds.{with_bodies}
 use Rattle.mid_program.specs.Texts.{functions_texts, stmts_texts}

@@ -4,7 +4,7 @@ use Rattle.awk_resolve.specs.ViewKinds.{view_name_kinds}
 use Rattle.awk_resolve.specs.declared.function_names.FunctionNames.{FunctionNames}
 use Rattle.awk_resolve.specs.declared.function_names.NameKind.{NameKind}
 use Rattle.awk_resolve.proofs.Names.{drop_at}
-use Rattle.awk_grammar.specs.Stmt.{Stmts}
+use Rattle.awk_grammar.specs.Trees.{Stmts}
 use Rattle.awk_grammar.specs.ViewStmt.{view_stmts}
 use Rattle.sem_scripts.specs.Kinds.{with_bodies}
 use Rattle.mid_program.specs.Mid.{Routine as PlainRoutine}

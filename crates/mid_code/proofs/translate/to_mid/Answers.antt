@@ -3,7 +3,7 @@ use Rattle.mid_program.specs.Mid.{Program}
 use Rattle.mid_program.specs.MidMeaning.{EndsAs}
 use Rattle.mid_program.specs.Translation.{program_with}
 use Rattle.mid_code.specs.ViewNames.{script_of}
-use Rattle.mid_code.proofs.Scripts.{code_ends_as}
+use Rattle.mid_meaning.proofs.Scripts.{code_ends_as}
 use Rattle.mid_code.proofs.translate.to_mid.Goals as goal
 
 pub returns-clause-code : goal.returns-clause-code

@@ -1,5 +1,5 @@
 use Rattle.wasm_types.specs.declared.instr.Simple.TheVariants as simple
-use Rattle.wasm_types.specs.Opcodes.{indexed}
+use Rattle.wasm_types.specs.Leads.{indexed}
 use Rattle.wasm_types.specs.Syntax.{Plain}
 use Rattle.module_decoder.specs.Readers.{◌>>=◌, bits32_at, bits64_at, index_at}
 use Rattle.std.proofs.Common.{Ok}

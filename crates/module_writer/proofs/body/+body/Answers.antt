@@ -2,7 +2,7 @@ use Rattle.std.proofs.Common.{ℕ, ◌-◌, List, ap, ◌∙◌, arith}
 use Rattle.std.specs.declared.vec.Vec.{Vec}
 use Rattle.std.specs.declared.alloc.Global.{Global}
 use Rattle.wasm_types.specs.declared.instr.Instr.{Instr}
-use Rattle.wasm_types.specs.Leb128.{and_then}
+use Rattle.wasm_types.specs.Leb128Texts.{and_then}
 use Rattle.wasm_types.specs.View.{view, views}
 use Rattle.wasm_types.proofs.Views.{view_block, view_loop, view_if}
 use Rattle.module_writer.specs.Outputs.{Adds}

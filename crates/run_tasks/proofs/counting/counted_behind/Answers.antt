@@ -1,17 +1,24 @@
-use Rattle.std.proofs.Common.{ap, inr}
+use Rattle.std.proofs.Common.{ap, inr, refl}
 use Rattle.std.specs.Prelude.{IfSome}
+use Rattle.world_core.specs.Traces.{IsHandedOn}
 use Rattle.world_os.specs.Behind.{behind}
 use Rattle.world_os.specs.Fences.{FenceForm, form_of, lets_read}
+use Rattle.host_tables.specs.Starts.{job_of}
 use Rattle.awk_run.specs.Counted.{IsCountedIn}
+use Rattle.awk_run.specs.ModuleRun.{IsGiven}
 use Rattle.awk_run.specs.ScriptRuns.{ScriptAnswers}
 use Rattle.run_tasks.proofs.Moved.{moved}
+use Rattle.awk_run.proofs.Gave.{none_given}
+use Rattle.run_tasks.proofs.Inside.{script_inside}
 use Rattle.run_tasks.proofs.counting.counted_behind.Goals as goal
 
 pub returns-in-Ok-clause-answers : goal.returns-in-Ok-clause-answers
-returns-in-Ok-clause-answers g c = moved (λ job fence. ScriptAnswers (g.W.World.is_modelled × ⊥) c.args.script.now job c.args.task.now.steps
+returns-in-Ok-clause-answers g c = moved (λ job fence. ScriptAnswers (g.W.World.is_modelled × ⊥) (IsGiven (IsHandedOn g.W.World.did) c.args.world.inner c.count_script.result.2.inner) c.args.script.now job c.args.task.now.steps
     (behind (lets_read fence) (g.W.World.state c.args.world.inner)) c.count_script.result.0
     (behind (lets_read (form_of c.count_script.result.2.fence)) (g.W.World.state c.count_script.result.2.inner))) c.in-Ok.ensures c.requires
-    c.count_script.ensures.answers
+    (script_inside (g.W.World.is_modelled × ⊥) g.W.World.did c.args.world c.count_script.result.2 (λ w. w.inner) c.args.script.now (job_of c.in-Ok.job) c.args.task.now.steps
+    (behind (lets_read (form_of c.args.world.fence)) (g.W.World.state c.args.world.inner))
+    (behind (lets_read (form_of c.count_script.result.2.fence)) (g.W.World.state c.count_script.result.2.inner)) c.count_script.result.0 c.count_script.ensures.answers)
 
 pub returns-in-Ok-clause-counted : goal.returns-in-Ok-clause-counted
 returns-in-Ok-clause-counted g c = moved (λ job fence. IfSome c.count_script.result.1 (IsCountedIn (g.W.World.is_modelled × ⊥) c.args.script.now job
@@ -19,4 +26,7 @@ returns-in-Ok-clause-counted g c = moved (λ job fence. IfSome c.count_script.re
 
 -- nothing is run for want of memory
 pub returns-in-Err-clause-answers : goal.returns-in-Err-clause-answers
-returns-in-Err-clause-answers g c = inr (ap (λ (fence : FenceForm). behind (lets_read fence) (g.W.World.state c.args.world.inner)) c.requires)
+returns-in-Err-clause-answers g c = inr (
+  ap (λ (fence : FenceForm). behind (lets_read fence) (g.W.World.state c.args.world.inner)) c.requires,
+  none_given (IsHandedOn g.W.World.did) c.args.world.inner c.args.world.inner refl,
+)

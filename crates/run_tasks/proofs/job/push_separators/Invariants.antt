@@ -1,6 +1,6 @@
 use Rattle.std.proofs.Common.{◌≡◌, ◌++◌, drop, map}
 use Rattle.command_line.specs.Request.{texts}
-use Rattle.host_names.specs.Forms.{pair_of}
+use Rattle.host_texts.specs.NameForms.{pair_of}
 use Rattle.run_tasks.specs.Jobs.{separator}
 use Rattle.run_tasks.proofs.job.push_separators.Given as goal
 

@@ -1,16 +1,23 @@
-use Rattle.std.proofs.Common.{ap, inr}
+use Rattle.std.proofs.Common.{ap, inr, refl}
 use Rattle.std.specs.Prelude.{IfSome}
+use Rattle.world_core.specs.Traces.{IsHandedOn}
 use Rattle.world_os.specs.Behind.{behind}
 use Rattle.world_os.specs.Fences.{FenceForm, form_of, lets_read}
-use Rattle.awk_run.specs.ModuleRun.{Answers}
+use Rattle.host_tables.specs.Starts.{job_of}
+use Rattle.awk_run.specs.ModuleRun.{Answers, IsGiven}
 use Rattle.awk_run.specs.ModuleSeen.{IsModuleSeenIn}
 use Rattle.run_tasks.proofs.Moved.{moved}
+use Rattle.awk_run.proofs.Gave.{none_given}
+use Rattle.run_tasks.proofs.Inside.{module_inside}
 use Rattle.run_tasks.proofs.module_sight.module_seen_behind.Goals as goal
 
 pub returns-in-Ok-clause-answers : goal.returns-in-Ok-clause-answers
-returns-in-Ok-clause-answers g c = moved (λ job fence. Answers (g.W.World.is_modelled × ⊥) c.args.bytes.now job c.args.task.now.steps
+returns-in-Ok-clause-answers g c = moved (λ job fence. Answers (g.W.World.is_modelled × ⊥) (IsGiven (IsHandedOn g.W.World.did) c.args.world.inner c.run_module_where.result.2.inner) c.args.bytes.now job c.args.task.now.steps
     (behind (lets_read fence) (g.W.World.state c.args.world.inner)) c.run_module_where.result.0
-    (behind (lets_read (form_of c.run_module_where.result.2.fence)) (g.W.World.state c.run_module_where.result.2.inner))) c.in-Ok.ensures c.requires c.run_module_where.ensures.answers
+    (behind (lets_read (form_of c.run_module_where.result.2.fence)) (g.W.World.state c.run_module_where.result.2.inner))) c.in-Ok.ensures c.requires
+    (module_inside (g.W.World.is_modelled × ⊥) g.W.World.did c.args.world c.run_module_where.result.2 (λ w. w.inner) c.args.bytes.now (job_of c.in-Ok.job) c.args.task.now.steps
+    (behind (lets_read (form_of c.args.world.fence)) (g.W.World.state c.args.world.inner))
+    (behind (lets_read (form_of c.run_module_where.result.2.fence)) (g.W.World.state c.run_module_where.result.2.inner)) c.run_module_where.result.0 c.run_module_where.ensures.answers)
 
 pub returns-in-Ok-clause-seen : goal.returns-in-Ok-clause-seen
 returns-in-Ok-clause-seen g c = moved (λ job fence. IfSome c.run_module_where.result.1 (IsModuleSeenIn (g.W.World.is_modelled × ⊥) c.args.bytes.now job
@@ -18,4 +25,7 @@ returns-in-Ok-clause-seen g c = moved (λ job fence. IfSome c.run_module_where.r
 
 -- nothing is run for want of memory
 pub returns-in-Err-clause-answers : goal.returns-in-Err-clause-answers
-returns-in-Err-clause-answers g c = inr (ap (λ (fence : FenceForm). behind (lets_read fence) (g.W.World.state c.args.world.inner)) c.requires)
+returns-in-Err-clause-answers g c = inr (
+  ap (λ (fence : FenceForm). behind (lets_read fence) (g.W.World.state c.args.world.inner)) c.requires,
+  none_given (IsHandedOn g.W.World.did) c.args.world.inner c.args.world.inner refl,
+)

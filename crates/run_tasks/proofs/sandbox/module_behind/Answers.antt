@@ -1,15 +1,25 @@
-use Rattle.std.proofs.Common.{ap, inr}
+use Rattle.std.proofs.Common.{ap, inr, refl}
+use Rattle.world_core.specs.Traces.{IsHandedOn}
 use Rattle.world_os.specs.Behind.{behind}
 use Rattle.world_os.specs.Fences.{FenceForm, form_of, lets_read}
-use Rattle.awk_run.specs.ModuleRun.{Answers}
+use Rattle.host_tables.specs.Starts.{job_of}
+use Rattle.awk_run.specs.ModuleRun.{Answers, IsGiven}
 use Rattle.run_tasks.proofs.Moved.{moved}
+use Rattle.awk_run.proofs.Gave.{none_given}
+use Rattle.run_tasks.proofs.Inside.{module_inside}
 use Rattle.run_tasks.proofs.sandbox.module_behind.Goals as goal
 
 pub returns-in-Ok : goal.returns-in-Ok
-returns-in-Ok g c = moved (λ job fence. Answers (g.W.World.is_modelled × ⊥) c.args.bytes.now job c.args.task.now.steps
+returns-in-Ok g c = moved (λ job fence. Answers (g.W.World.is_modelled × ⊥) (IsGiven (IsHandedOn g.W.World.did) c.args.world.inner c.run_module.result.1.inner) c.args.bytes.now job c.args.task.now.steps
     (behind (lets_read fence) (g.W.World.state c.args.world.inner)) c.run_module.result.0
-    (behind (lets_read (form_of c.run_module.result.1.fence)) (g.W.World.state c.run_module.result.1.inner))) c.in-Ok.ensures c.requires c.run_module.ensures
+    (behind (lets_read (form_of c.run_module.result.1.fence)) (g.W.World.state c.run_module.result.1.inner))) c.in-Ok.ensures c.requires
+    (module_inside (g.W.World.is_modelled × ⊥) g.W.World.did c.args.world c.run_module.result.1 (λ w. w.inner) c.args.bytes.now (job_of c.in-Ok.job) c.args.task.now.steps
+    (behind (lets_read (form_of c.args.world.fence)) (g.W.World.state c.args.world.inner))
+    (behind (lets_read (form_of c.run_module.result.1.fence)) (g.W.World.state c.run_module.result.1.inner)) c.run_module.result.0 c.run_module.ensures)
 
 -- nothing is run for want of memory
 pub returns-in-Err : goal.returns-in-Err
-returns-in-Err g c = inr (ap (λ (fence : FenceForm). behind (lets_read fence) (g.W.World.state c.args.world.inner)) c.requires)
+returns-in-Err g c = inr (
+  ap (λ (fence : FenceForm). behind (lets_read fence) (g.W.World.state c.args.world.inner)) c.requires,
+  none_given (IsHandedOn g.W.World.did) c.args.world.inner c.args.world.inner refl,
+)

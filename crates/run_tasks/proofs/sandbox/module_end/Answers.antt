@@ -1,10 +1,20 @@
-use Rattle.std.proofs.Common.{inr, refl}
+use Rattle.std.proofs.Common.{ap, inr, refl}
 use Rattle.run_tasks.specs.Jobs.{files_of_task}
+use Rattle.run_tasks.proofs.Outlets.{module_out, none_out}
+use Rattle.run_tasks.proofs.Unknown.{any_module}
 use Rattle.run_tasks.proofs.sandbox.module_end.Goals as goal
 
-pub returns-in-Ok : goal.returns-in-Ok
-returns-in-Ok g c = record { after = _; answers = c.module_behind-end.ensures }
+pub returns-in-Ok-clause-answers : goal.returns-in-Ok-clause-answers
+returns-in-Ok-clause-answers g c = any_module _ c.args.task.now c.args.bytes.now _ _ _ c.module_behind-end.ensures
+
+pub returns-in-Ok-clause-gave : goal.returns-in-Ok-clause-gave
+returns-in-Ok-clause-gave g c = module_out _ c.in-Ok.world.inner c.module_behind-end.result.1.inner (λ w. w.inner) (λ w. w.streams.items) (λ w. w.named)
+    (λ w. g.O.Write.contents w.output) (λ w. g.E.Write.contents w.errors) _ _ _ c.in-Ok.ensures.streams c.in-Ok.ensures.named
+    (ap g.O.Write.contents c.in-Ok.ensures.output) (ap g.E.Write.contents c.in-Ok.ensures.errors) c.args.task.now c.args.bytes.now _ _ _ c.module_behind-end.ensures
 
 -- nothing is run for want of memory
-pub returns-in-Err : goal.returns-in-Err
-returns-in-Err g c = record { after = files_of_task c.args.task.now; answers = inr refl }
+pub returns-in-Err-clause-answers : goal.returns-in-Err-clause-answers
+returns-in-Err-clause-answers g c = record { after = files_of_task c.args.task.now; answers = inr (refl, tt) }
+
+pub returns-in-Err-clause-gave : goal.returns-in-Err-clause-gave
+returns-in-Err-clause-gave g c = record { after = files_of_task c.args.task.now; answers = inr (refl, none_out _ _ _ _) }

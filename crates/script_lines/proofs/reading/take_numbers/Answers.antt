@@ -1,5 +1,5 @@
 use Rattle.std.proofs.Common.{◌∙◌}
-use Rattle.wasm_types.specs.Leb128.{u32_at}
+use Rattle.wasm_types.specs.Leb128Texts.{u32_at}
 use Rattle.script_lines.proofs.Loops.{one_more}
 use Rattle.script_lines.proofs.reading.take_numbers.Goals as goal
 

@@ -1,5 +1,5 @@
 use Rattle.std.proofs.Common.{◌≡◌, ◌++◌, drop, flat_map}
-use Rattle.wasm_types.specs.Leb128.{u32_text}
+use Rattle.wasm_types.specs.Leb128Texts.{u32_text}
 use Rattle.script_lines.proofs.writing.put_numbers.Given as goal
 
 abbrev pub invariant-loop-number : goal.invariant-loop-number

@@ -1,7 +1,8 @@
 use Rattle.std.proofs.Common.{◌≡◌, ℕ, List, ◌<◌, ◌≤◌, length, ap, sym, ◌∙◌, arith, subst, w32}
 use Rattle.std.proofs.lemmas.Int.{ints, of_z-to_z}
 use Rattle.std.specs.Int.{cast_unsigned}
-use Rattle.wasm_types.specs.Leb128.{IsS32, s32_text}
+use Rattle.wasm_types.specs.Leb128.{IsS32}
+use Rattle.wasm_types.specs.Leb128Texts.{s32_text}
 use Rattle.wasm_types.proofs.Groups.{s32_written, s32_least}
 use Rattle.wasm_types.proofs.leb128.write_s32.Goals as goal
 

@@ -1,7 +1,8 @@
 use Rattle.std.proofs.Common.{◌≡◌, ℕ, List, ◌<◌, ◌≤◌, length, ap, sym, ◌∙◌, arith, subst, w64}
 use Rattle.std.proofs.lemmas.Int.{ints, of_z-to_z}
 use Rattle.std.specs.Int.{cast_unsigned}
-use Rattle.wasm_types.specs.Leb128.{IsS64, s64_text}
+use Rattle.wasm_types.specs.Leb128.{IsS64}
+use Rattle.wasm_types.specs.Leb128Texts.{s64_text}
 use Rattle.wasm_types.proofs.Groups.{s64_written, s64_least}
 use Rattle.wasm_types.proofs.leb128.write_s64.Goals as goal
 

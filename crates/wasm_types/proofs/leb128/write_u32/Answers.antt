@@ -1,5 +1,6 @@
 use Rattle.std.proofs.Common.{◌≡◌, ℕ, List, ◌≤◌, length, refl, sym, ◌∙◌, subst}
-use Rattle.wasm_types.specs.Leb128.{IsU32, u32_text}
+use Rattle.wasm_types.specs.Leb128.{IsU32}
+use Rattle.wasm_types.specs.Leb128Texts.{u32_text}
 use Rattle.wasm_types.proofs.Groups.{u32_written, u32_least}
 use Rattle.wasm_types.proofs.leb128.write_u32.Goals as goal
 

@@ -7,6 +7,7 @@ use Rattle.host_imports.specs.declared.import.Import.{Import}
 use Rattle.host_values.specs.FormMeaning.{FormMeans}
 use Rattle.host_values.proofs.Means.{unknown_called}
 use Rattle.host_calls.specs.Forms.{host_form}
+use Rattle.host_calls.proofs.Gaves.{gave_none}
 use Rattle.host_calls.proofs.module_calls.HostHostCalls.call.Goals as goal
 
 pub returns-in-None : goal.returns-in-None
@@ -17,7 +18,7 @@ returns-in-None g c =
     let means = subst (λ (i : Option Import). FormMeans g.W.World.is_modelled i before words memory (Trap BadArgument) before []) c.in-None.ensures
     (unknown_called g.W.World.is_modelled before words memory) in
     let told = subst (λ (a : HostAnswer). FormMeans g.W.World.is_modelled (import_at c.args.import) before words memory a before []) (sym c.unknown.ensures) means in
-    record { means = ([], (refl, told)) }
+    record { means = ([], ((refl, told), gave_none g.W.World.did c.args.self.now c.args.self.now refl refl)) }
 
 pub returns-in-Some : goal.returns-in-Some
 returns-in-Some g c =
@@ -27,4 +28,4 @@ returns-in-Some g c =
     let m = c.answer.ensures in
     let means = subst (λ (bytes : List ℕ). FormMeans g.W.World.is_modelled (Some c.in-Some.import) before words bytes c.answer.result after m.0) c.bytes.ensures m.2 in
     let told = subst (λ (i : Option Import). FormMeans g.W.World.is_modelled i before words c.args.memory.now.bytes c.answer.result after m.0) c.in-Some.ensures means in
-    record { means = (m.0, (refl, told)) }
+    record { means = (m.0, ((refl, told), m.1)) }

@@ -5,7 +5,7 @@ use Rattle.std.proofs.lemmas.Int.{to_z-of_z}
 use Rattle.std.proofs.lemmas.Result.{err_from_is_err_and}
 use Rattle.awk_values.specs.declared.value.Value.{Value}
 use Rattle.sem_primitives.specs.FieldMeaning.{field_number, resized, with_count}
-use Rattle.host_format.specs.Outcomes.{IsStopOf}
+use Rattle.host_bytes.specs.Outcomes.{IsStopOf}
 use Rattle.host_fields.specs.Calls.{count_set}
 use Rattle.host_fields.specs.Held.{Held, held_in, text_size, with_held}
 use Rattle.host_fields.proofs.Assigned.{count_assigned, count_too_long, own_held, unbuilt_same}

@@ -3,7 +3,7 @@ use Rattle.std.proofs.lemmas.Bool.{cases_lt}
 use Rattle.std.proofs.lemmas.List.{get_or-drop, length-drop}
 use Rattle.memchr.specs.Find.{IsFirstByte, Nowhere, Passes}
 use Rattle.host_format.specs.Marks.{is_mark}
-use Rattle.host_format.proofs.Pieces.{rest_of}
+use Rattle.host_bytes.proofs.Rests.{rest_of}
 use Rattle.host_format.proofs.marks.Marks.find.Goals as goal
 
 abbrev Test : Type 0

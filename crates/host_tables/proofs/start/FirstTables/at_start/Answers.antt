@@ -1,7 +1,7 @@
 use Rattle.std.proofs.Common.{rules, ◌≡◌, length, map, ap, ◌∙◌}
 use Rattle.std.specs.FinMap as maps
 use Rattle.sem_primitives.specs.SharedState.{specials_at_start}
-use Rattle.host_names.specs.Forms.{pair_of}
+use Rattle.host_texts.specs.NameForms.{pair_of}
 use Rattle.host_tables.specs.Starts.{job_of}
 use Rattle.host_tables.specs.declared.start.FirstTables.{FirstTables}
 use Rattle.host_tables.proofs.Starting.{none_there, reserved_first, stands}

@@ -1,0 +1,9 @@
+pub mod Rests
+pub mod Chosen
+pub mod Finds
+pub mod Replaced
+pub mod Grown
+pub mod Conversions
+pub mod Numerals
+pub mod Padded
+pub mod Steps

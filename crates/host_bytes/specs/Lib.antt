@@ -1,0 +1,5 @@
+pub mod Parts
+pub mod Outcomes
+pub mod Growing
+pub mod Conversions
+pub mod Steps

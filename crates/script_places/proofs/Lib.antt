@@ -1,0 +1,6 @@
+pub mod Answered
+pub mod SiteLemmas
+pub mod Walking
+pub mod Tallying
+pub mod Firsts
+pub mod Listed
