@@ -14,3 +14,4 @@ mod StoresLemmas
 mod InputLemmas
 mod FormatsLemmas
 mod IntegersLemmas
+mod BigStepLemmas

@@ -13,3 +13,4 @@ pub mod Stores
 pub mod Input
 pub mod Formats
 pub mod Integers
+pub mod BigStep

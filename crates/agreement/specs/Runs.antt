@@ -1,2 +1,3 @@
 pub mod ToldRuns
+pub mod MachineEnds
 pub mod Examples

@@ -1,6 +1,7 @@
 //! Script and module agree: laws alone, each the contract of a function that does nothing.
 #![tactic(auto)]
 
+pub mod big_step;
 pub mod formats;
 pub mod input;
 pub mod integers;

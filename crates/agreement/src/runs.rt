@@ -5,7 +5,8 @@ ghost use Rattle.std.specs.Prelude.{ℕ, List};
 ghost use Rattle.sem_primitives.specs.Jobs.{JobForm};
 ghost use Rattle.wasm_model.specs.Links.{IsNew};
 ghost use Rattle.wasm_model.specs.Machines.{Conf};
-ghost use Rattle.wasm_model.specs.Runs.{Did, MachineForm};
+ghost use Rattle.wasm_model.specs.Runs.{MachineForm};
+ghost use Rattle.wasm_model.specs.MachineRuns.{Did};
 ghost use Rattle.wasm_model.specs.declared.ends.MachineEnd.{MachineEnd};
 ghost use Rattle.wasm_types.specs.Syntax.{ModuleForm};
 ghost use Rattle.wasm_types.specs.Typing.{ModuleOk};
@@ -18,7 +19,8 @@ ghost use Rattle.host_values.specs.Findings.{ShownFirst};
 ghost use Rattle.host_values.specs.Shown.{Shown};
 ghost use Rattle.sem_scripts.specs.ScriptRun.{Ending, Setting};
 ghost use Rattle.agreement.specs.Modules.Agreement.{Agreement};
-ghost use Rattle.agreement.specs.Runs.ToldRuns.{DoesSo, DoesSoThere, FoundRun, GoesOnThere, ToldRun, done_output, told_by};
+ghost use Rattle.agreement.specs.Runs.ToldRuns.{DoesSo, DoesSoThere, FoundRun, GoesOnThere, ToldRun, done_output};
+ghost use Rattle.agreement.specs.Runs.MachineEnds.{told_by};
 
 use world_core::World;
 

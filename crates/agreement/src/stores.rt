@@ -3,7 +3,8 @@ ghost use Rattle.std.specs.Prelude.{◌≡◌, ℕ, suc, List, ◌++◌, None, O
 ghost use Rattle.awk_values.specs.declared.value.Value.{Value};
 ghost use Rattle.world_core.specs.WorldState.{Target};
 ghost use Rattle.sem_primitives.specs.SharedState.{Inner, Pairs, Shared};
-ghost use Rattle.sem_primitives.specs.ArrayMeaning.{array, iterate_row, keys, stored, without};
+ghost use Rattle.sem_primitives.specs.ArrayMeaning.{array, keys, stored, without};
+ghost use Rattle.sem_primitives.specs.Rows.{iterate_row};
 ghost use Rattle.sem_primitives.specs.FieldMeaning.{with_count, with_field};
 ghost use Rattle.agreement.specs.Stores.Elements.{IsDeleted, IsStored};
 ghost use Rattle.agreement.specs.Stores.Fields.{CountIsAssigned, FieldIsAssigned};

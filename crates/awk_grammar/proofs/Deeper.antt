@@ -1,11 +1,11 @@
 -- With more depth allowed, only what was too deep is read otherwise.
 use Rattle.std.proofs.Common.{◌≡◌, ℕ, zero, suc, ◌≤◌, Bool, true, false, ltb, List, ◌∷◌, length, Option, Some, None, Result, Ok, Err, ◌⊎◌, inl, inr, refl, arith}
 use Rattle.std.proofs.lemmas.Bool.{ltb-false, le-ltb, cases_Bool}
-use Rattle.awk_grammar.specs.Token.{Not, Signed, Token, Name, FuncName, Word, GetlineWord, Dollar, Open, Close, SignMark, NotMark, StepMark, Fault, TooDeep}
+use Rattle.awk_grammar.specs.Token.{Not, Signed, Token, Name, FuncName, Word, GetlineWord, Dollar, Open, Close, SignMark, NotMark, StepMark}
+use Rattle.awk_grammar.specs.Reading.{Fault, TooDeep, ◌>>=◌, Read, Reader, close_at, bracket_at, colon_at, in_at, name_at, comma_at, open_at, index_at, less_at, Link, Joined, Within, Chosen, link_at, more_by, more_at, list_at, arguments_at, indexed_by, call_by, suited, applied_by, paren_by, getting, from_by, into_by, under, first_at, posted, checked, after, stops, goes_on, climb, fitting, expr_at}
 use Rattle.awk_tokens.specs.declared.reserved_words.Builtin.{Builtin}
 use Rattle.awk_grammar.specs.Tree.{op_right, Mode, Whole, Plain, LValue, InField, floor, class_at, is_start}
 use Rattle.awk_grammar.specs.Trees.{Tree, Index, Field, Call, Unary, Pre, Bin, HasList, Cond, Then, depth}
-use Rattle.awk_grammar.specs.Reading.{◌>>=◌, Read, Reader, close_at, bracket_at, colon_at, in_at, name_at, comma_at, open_at, index_at, less_at, Link, Joined, Within, Chosen, link_at, more_by, more_at, list_at, arguments_at, indexed_by, call_by, suited, applied_by, paren_by, getting, from_by, into_by, under, first_at, posted, checked, after, stops, goes_on, climb, fitting, expr_at}
 use Rattle.awk_grammar.proofs.Sound.{closing}
 
 abbrev pub Below : {A : Type 0} → Result A Fault → Result A Fault → Type 0

@@ -1,8 +1,8 @@
 -- Scripts that are well formed and not too deep are read.
 use Rattle.std.proofs.Common.{◌≡◌, ℕ, zero, suc, ◌+◌, ◌<◌, ◌≤◌, max, true, List, [], ◌∷◌, ◌++◌, length, None, Result, Ok, refl, sym, ap, ◌∙◌, append_assoc, arith, length-append}
-use Rattle.awk_grammar.specs.Token.{BeginWord, EndWord, FunctionWord, Token, Name, Open, Close, OpenBrace, CloseBrace, Comma, Semicolon, Key, Fault}
+use Rattle.awk_grammar.specs.Token.{BeginWord, EndWord, FunctionWord, Token, Name, Open, Close, OpenBrace, CloseBrace, Comma, Semicolon, Key}
+use Rattle.awk_grammar.specs.Reading.{Fault, ◌>>=◌, close_at, comma_at, expr_at}
 use Rattle.awk_grammar.specs.Tree.{print, Whole}
-use Rattle.awk_grammar.specs.Reading.{◌>>=◌, close_at, comma_at, expr_at}
 use Rattle.awk_grammar.specs.Stmt.{print_stmts, AreStmts}
 use Rattle.awk_grammar.specs.Trees.{Stmts, stmts_depth, Pattern, One, Between, Item, Function, Begin, End, Always, When, Lone, Nothing, pattern_depth, item_depth, script_depth}
 use Rattle.awk_grammar.specs.ReadStmt.{Read, stmts_at, stmt_at, starts_expr}

@@ -1,12 +1,12 @@
 -- What is read is well formed, and printed so.
 use Rattle.std.proofs.Common.{◌≡◌, ℕ, zero, suc, ◌<◌, ◌≤◌, Bool, true, false, cond, ltb, ◌&&◌, ◌||◌, List, [], ◌∷◌, ◌++◌, length, Option, Some, None, Result, Ok, Err, refl, sym, ap, subst, ◌∙◌, append_assoc, arith}
 use Rattle.std.proofs.lemmas.Bool.{ltb-false, le-leb, or_parts}
-use Rattle.awk_grammar.specs.Token.{Not, Signed, Step, Less, Symbol, Assign, Or, And, Match, Compare, Mul, Pow, Token, Lit, Name, FuncName, Word, GetlineWord, InWord, Dollar, Open, Close, OpenBracket, CloseBracket, Comma, Question, Colon, SignMark, NotMark, StepMark, Infix, Fault, Syntax, TooDeep}
+use Rattle.awk_grammar.specs.Token.{Not, Signed, Step, Less, Symbol, Assign, Or, And, Match, Compare, Mul, Pow, Token, Lit, Name, FuncName, Word, GetlineWord, InWord, Dollar, Open, Close, OpenBracket, CloseBracket, Comma, Question, Colon, SignMark, NotMark, StepMark, Infix}
+use Rattle.awk_grammar.specs.Reading.{Fault, Syntax, TooDeep, ◌>>=◌, Read, ReadMany, Reader, close_at, bracket_at, colon_at, in_at, name_at, comma_at, open_at, index_at, less_at, step_at, Link, Joined, Within, Chosen, link_level, link_left, link_at, more_by, more_at, list_at, arguments_at, indexed_by, call_by, bare, suited, applied_by, paren_by, getting, from_by, into_by, under, first_at, posted_by, posted, checked, after, stops, goes_on, climb, fitting, expr_at}
 use Rattle.awk_tokens.specs.declared.reserved_words.Builtin.{Builtin}
 use Rattle.awk_tokens.specs.declared.reserved_words.Builtin.TheVariants.{Length as LengthOf}
 use Rattle.awk_grammar.specs.Tree.{op_tokens, print, print_list, print_more, op_level, op_right, symbol_level, Mode, Whole, AfterOr, AfterAnd, AfterMatch, AfterCompare, AfterJoin, AfterAdd, Factor, Plain, LValue, InField, floor, normal, level, is_field, fits, edge, class_at, is_start, takes, StartsOperand, MayJoin, allowed, op_allowed, suits, IsSome, IsWellFormed, AreWellFormed}
 use Rattle.awk_grammar.specs.Trees.{Op, Join, Add, Other, Tree, Leaf, Length, Var, Index, Field, Group, Call, Apply, Unary, Pre, Post, Bin, Has, HasList, Cond, Get, GetInto, GetFrom, GetIntoFrom, Trees, NoTree, Then, prefix_token, depth, depths}
-use Rattle.awk_grammar.specs.Reading.{◌>>=◌, Read, ReadMany, Reader, close_at, bracket_at, colon_at, in_at, name_at, comma_at, open_at, index_at, less_at, step_at, Link, Joined, Within, Chosen, link_level, link_left, link_at, more_by, more_at, list_at, arguments_at, indexed_by, call_by, bare, suited, applied_by, paren_by, getting, from_by, into_by, under, first_at, posted_by, posted, checked, after, stops, goes_on, climb, fitting, expr_at}
 
 pub bind_ok : {A B : Type 0} (r : Result A Fault) (f : A → Result B Fault) (y : B) → (r >>= f) ≡ Ok y → (x : A) × (r ≡ Ok x) × (f x ≡ Ok y)
 bind_ok (Ok x) f y e = (x, refl, e)

@@ -1,9 +1,9 @@
 -- Statements that are well formed and not too deep are read.
 use Rattle.std.proofs.Common.{◌≡◌, ℕ, zero, suc, ◌<◌, ◌≤◌, max, Bool, true, false, cond, List, [], ◌∷◌, ◌++◌, length, Option, Some, None, Result, Ok, Err, refl, sym, ap, ◌∙◌, append_assoc, arith, length-append}
-use Rattle.awk_grammar.specs.Token.{Not, Signed, IfWord, ElseWord, WhileWord, ForWord, DoWord, BreakWord, ContinueWord, NextWord, NextFileWord, ExitWord, ReturnWord, Token, Name, InWord, Open, Close, CloseBracket, OpenBrace, CloseBrace, Comma, Semicolon, Question, Colon, StepMark, Key, Fault, Syntax}
+use Rattle.awk_grammar.specs.Token.{Not, Signed, IfWord, ElseWord, WhileWord, ForWord, DoWord, BreakWord, ContinueWord, NextWord, NextFileWord, ExitWord, ReturnWord, Token, Name, InWord, Open, Close, CloseBracket, OpenBrace, CloseBrace, Comma, Semicolon, Question, Colon, StepMark, Key}
+use Rattle.awk_grammar.specs.Reading.{Fault, Syntax, ◌>>=◌, Reader, close_at, bracket_at, comma_at, list_at, expr_at}
 use Rattle.awk_grammar.specs.Tree.{op_tokens, print, print_list, print_more, Whole, AfterCompare, fits, takes, IsWellFormed}
 use Rattle.awk_grammar.specs.Trees.{Tree, Var, Group, Unary, Post, Bin, Has, HasList, Cond, Trees, NoTree, Then, depth, Printing, Print, Printf, Args, NoArgs, Listed, Enclosed, Target, NoTarget, Written, Appended, Plain, Eval, Put, Delete, Clear, Jump, Break, Continue, Next, NextFile, Leaving, Exit, Return, Stmt, Block, Empty, Simple, If, IfElse, While, Do, For, ForIn, Jumping, Leave, Stmts, NoStmt, And, args_depth, target_depth, plain_depth, maybe_depth, maybe_plain_depth, stmt_depth, stmts_depth}
-use Rattle.awk_grammar.specs.Reading.{◌>>=◌, Reader, close_at, bracket_at, comma_at, list_at, expr_at}
 use Rattle.awk_grammar.specs.Stmt.{print_args, print_target, print_plain, print_maybe, print_maybe_plain, print_stmt, print_stmts, IsArgs, IsTarget, IsPlain, IsMaybe, IsMaybePlain, dangles, IsStmt, AreStmts}
 use Rattle.awk_grammar.specs.ReadStmt.{Read, semicolon_at, while_at, else_at, brace_at, is_in, starts_expr, starts_plain, enclosed_at, listed_at, args_by, no_args, args_at, target_at, put_at, delete_by, eval_at, plain_at, maybe_at, maybe_plain_at, StmtReader, stmts_by, stmts_at, condition_at, else_by, if_at, loop_at, do_at, keys_at, for_by, leave_at, simple_at, block_at, one_at, stmt_at}
 use Rattle.awk_grammar.proofs.Complete.{Closing, reads, reads_whole, again, again_list, some_not_none, takes_free}

@@ -1,10 +1,10 @@
 -- With more depth allowed, only what was too deep is read otherwise: statements and scripts.
 use Rattle.std.proofs.Common.{◌≡◌, ℕ, zero, suc, ◌+◌, ◌≤◌, max, Bool, true, false, List, [], ◌∷◌, length, Option, Some, None, Result, Ok, Err, inl, inr, refl, arith}
 use Rattle.std.specs.Prelude.{if◌then◌else◌}
-use Rattle.awk_grammar.specs.Token.{Greater, Compare, BeginWord, EndWord, FunctionWord, IfWord, WhileWord, ForWord, DoWord, BreakWord, ContinueWord, NextWord, NextFileWord, ExitWord, ReturnWord, DeleteWord, PrintWord, PrintfWord, Token, Name, OpenBracket, OpenBrace, Semicolon, Infix, Append, Key, Fault, Syntax, TooDeep}
+use Rattle.awk_grammar.specs.Token.{Greater, Compare, BeginWord, EndWord, FunctionWord, IfWord, WhileWord, ForWord, DoWord, BreakWord, ContinueWord, NextWord, NextFileWord, ExitWord, ReturnWord, DeleteWord, PrintWord, PrintfWord, Token, Name, OpenBracket, OpenBrace, Semicolon, Infix, Append, Key}
+use Rattle.awk_grammar.specs.Reading.{Fault, Syntax, TooDeep, ◌>>=◌, Reader, close_at, bracket_at, name_at, comma_at, list_at, expr_at}
 use Rattle.awk_grammar.specs.Tree.{Whole, AfterCompare}
 use Rattle.awk_grammar.specs.Trees.{Tree, Trees, Printing, Print, Printf, Listed, Written, Appended, Eval, Put, Delete, Leaving, Exit, Return, Stmt, Block, Simple, IfElse, While, Do, For, ForIn, Leave, And, Pattern, Between, Item, Function, Begin, End, Always, When, script_depth}
-use Rattle.awk_grammar.specs.Reading.{◌>>=◌, Reader, close_at, bracket_at, name_at, comma_at, list_at, expr_at}
 use Rattle.awk_grammar.specs.ReadStmt.{Read, open_here, comma_here, semicolon_at, while_at, else_at, brace_at, is_in, starts_expr, starts_plain, enclosed_at, listed_at, args_by, no_args, args_at, target_at, put_at, delete_by, delete_at, eval_at, plain_at, maybe_at, maybe_plain_at, StmtReader, stmts_by, stmts_at, condition_at, else_by, if_at, loop_at, do_at, keys_at, for_by, for_at, leave_at, simple_at, one_at, stmt_at}
 use Rattle.awk_grammar.specs.Item.{IsScript, print_script}
 use Rattle.awk_grammar.specs.ReadItem.{body_at, params_at, function_by, function_at, pattern_by, pattern_at, action_at, rule_at, item_at, items_at, script_at}

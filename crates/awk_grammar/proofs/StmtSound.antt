@@ -1,9 +1,9 @@
 -- What is read is a well formed statement, and printed so.
 use Rattle.std.proofs.Common.{◌≡◌, ℕ, zero, suc, ◌+◌, ◌≤◌, max, Bool, true, false, cond, List, [], ◌∷◌, ◌++◌, length, Option, Some, None, Ok, Err, refl, sym, ap, subst, ◌∙◌, append_assoc, arith}
-use Rattle.awk_grammar.specs.Token.{Greater, Compare, IfWord, ElseWord, WhileWord, ForWord, DoWord, BreakWord, ContinueWord, NextWord, NextFileWord, ExitWord, ReturnWord, DeleteWord, PrintWord, PrintfWord, Token, Name, InWord, Open, Close, OpenBracket, CloseBracket, OpenBrace, CloseBrace, Comma, Semicolon, Infix, Append, Key, Syntax, TooDeep}
+use Rattle.awk_grammar.specs.Token.{Greater, Compare, IfWord, ElseWord, WhileWord, ForWord, DoWord, BreakWord, ContinueWord, NextWord, NextFileWord, ExitWord, ReturnWord, DeleteWord, PrintWord, PrintfWord, Token, Name, InWord, Open, Close, OpenBracket, CloseBracket, OpenBrace, CloseBrace, Comma, Semicolon, Infix, Append, Key}
+use Rattle.awk_grammar.specs.Reading.{Syntax, TooDeep, ◌>>=◌, Reader, close_at, bracket_at, name_at, list_at, expr_at}
 use Rattle.awk_grammar.specs.Tree.{print, print_list, Whole, AfterCompare, IsSome, IsWellFormed, AreWellFormed}
 use Rattle.awk_grammar.specs.Trees.{Tree, Trees, depth, depths, Printing, Print, Printf, Args, NoArgs, Listed, Enclosed, Target, NoTarget, Written, Appended, Plain, Eval, Put, Delete, Clear, Jump, Break, Continue, Next, NextFile, Leaving, Exit, Return, Stmt, Block, Empty, Simple, If, IfElse, While, Do, For, ForIn, Jumping, Leave, Stmts, NoStmt, And, jump_token, leaving_token, args_depth, target_depth, plain_depth, maybe_depth, maybe_plain_depth, stmt_depth, stmts_depth}
-use Rattle.awk_grammar.specs.Reading.{◌>>=◌, Reader, close_at, bracket_at, name_at, list_at, expr_at}
 use Rattle.awk_grammar.specs.Stmt.{printing_token, print_args, print_target, print_plain, print_maybe, print_maybe_plain, print_stmt, print_stmts, IsArgs, IsTarget, IsPlain, IsMaybe, IsMaybePlain, dangles, IsStmt, AreStmts}
 use Rattle.awk_grammar.specs.ReadStmt.{Read, open_here, comma_here, semicolon_at, while_at, else_at, brace_at, is_in, starts_expr, starts_plain, enclosed_at, listed_at, args_by, no_args, args_at, target_at, put_at, delete_by, delete_at, eval_at, plain_at, maybe_at, maybe_plain_at, StmtReader, stmts_by, stmts_at, condition_at, else_by, if_at, loop_at, do_at, keys_at, for_by, for_at, leave_at, jump_at, simple_at, block_at, one_at, stmt_at}
 use Rattle.awk_grammar.proofs.Sound.{bind_ok, guard_ok, IsSound, IsOk, ok_is, that_is, cons, close_ok, bracket_ok, name_ok, list_sound, expr_sound, regroup2}

@@ -5,7 +5,7 @@ use Rattle.std.specs.List.{list_any, slice_get}
 use Rattle.std.specs.Option.{option_map, is_some}
 use Rattle.awk_grammar.specs.Trees.{Item, Function as FunctionItem}
 use Rattle.awk_grammar.specs.Marks.{Kind, Array, Scalar, Mark, Defined, Parameter, Used, Called, Computed, Given, script_marks}
-use Rattle.awk_grammar.specs.Least.{least}
+use Rattle.awk_grammar.specs.LeastSets.{least}
 
 -- Names.
 
@@ -121,8 +121,7 @@ is_used_as kind hs ms = least same_key (members kind hs ms) (pairs hs ms)
 pub data Refusal : Type 0 where
   TooMany : (function : List ℕ) → Refusal
   DuplicateName : (name : List ℕ) → Refusal
-  UnknownFunction : (function : List ℕ) → Refusal
-  ArgCount : (function : List ℕ) → Refusal
+  UnknownFunction ArgCount : (function : List ℕ) → Refusal
   KindClash : (name : List ℕ) → Refusal
 
 abbrev pub or_else : {A : Type 0} → Option A → Option A → Option A
@@ -169,9 +168,8 @@ abbrev pub duplicate : List Head → (functions : List (List ℕ)) → (paramete
 duplicate hs functions parameters (Defined f) = only_if (has_name specials f || has_name functions f) f
 duplicate hs functions parameters (Parameter f x) = only_if (has_name specials x || (is_function hs x || list_any (same_key (Inside f x)) parameters)) x
 duplicate hs functions parameters (Used kind place x) = only_if (is_function hs x) x
-duplicate hs functions parameters (Called f n) = None
-duplicate hs functions parameters (Computed f i) = None
 duplicate hs functions parameters (Given f i place x) = only_if (is_function hs x) x
+duplicate hs functions parameters _ = None
 
 abbrev pub first_duplicate : List Head → (before : List Mark) → List Mark → Option (List ℕ)
 first_duplicate hs before [] = None
@@ -201,16 +199,11 @@ needing arrays None = None
 needing arrays (Some p) = only_if (arrays p) (name_of p)
 
 abbrev pub clash : (arrays scalars : Key → Bool) → List Head → Mark → Option (List ℕ)
-clash arrays scalars hs (Defined f) = None
 clash arrays scalars hs (Parameter f x) = clashing arrays scalars (Inside f x)
 clash arrays scalars hs (Used kind place x) = clashing arrays scalars (key_in hs place x)
-clash arrays scalars hs (Called f n) = None
 clash arrays scalars hs (Computed f i) = needing arrays (parameter_at hs f i)
 clash arrays scalars hs (Given f i place x) = clashing arrays scalars (key_in hs place x)
-
--- the refusal for a variable of both kinds
-abbrev pub kind_refusal : (arrays scalars : Key → Bool) → List Head → List Mark → Option Refusal
-kind_refusal arrays scalars hs ms = option_map KindClash (first (clash arrays scalars hs) ms)
+clash arrays scalars hs _ = None
 
 -- kinds aside
 abbrev pub name_refusal : List Head → List Mark → Option Refusal
@@ -250,10 +243,6 @@ with_marks hs ks (m ∷ ms) = with_marks hs (with_mark hs ks m) ms
 abbrev pub with_keys : List Key → List Key → List Key
 with_keys ks [] = ks
 with_keys ks (l ∷ ls) = with_keys (with_key ks l) ls
-
--- the parameters of all functions, each once
-abbrev pub distinct_parameters : List Head → List Key
-distinct_parameters hs = with_keys [] (parameter_keys hs)
 
 -- the parameters of all functions, the special variables, and the other variables of the script in the order of their first places
 abbrev pub variables : List Head → List Mark → List Key

@@ -11,8 +11,11 @@ pub mod View
 pub mod WellFormed
 pub mod ViewStmt
 pub mod Lexeme
+pub mod LexemeCases
+pub mod LexemeTable
 pub mod TreeOf
 pub mod Marks
 pub mod Least
+pub mod LeastSets
 pub mod Kinds
 pub mod Examples

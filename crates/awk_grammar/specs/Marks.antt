@@ -2,11 +2,10 @@
 use Rattle.std.specs.Prelude.{ℕ, ◌+◌, ◌==◌, Bool, false, if◌then◌else◌, List, [], ◌∷◌, ◌++◌, Option, Some, None}
 use Rattle.awk_tokens.specs.declared.reserved_words.Builtin.{Builtin}
 use Rattle.awk_tokens.specs.declared.reserved_words.Builtin.TheVariants.{Split}
-use Rattle.awk_grammar.specs.Trees.{count, Tree, Leaf, Length, Var, Index, Field, Group, Call, Apply, Unary, Pre, Post, Bin, Has, HasList, Cond, Get, GetInto, GetFrom, GetIntoFrom, Trees, NoTree, Then, Args, NoArgs, Listed, Enclosed, Target, NoTarget, Written, Appended, Plain, Eval, Put, Delete, Clear, Stmt, Block, Empty, Simple, If, IfElse, While, Do, For, ForIn, Jumping, Leave, Stmts, NoStmt, And, Pattern, One, Between, Item, Function, Begin, End, Always, When, Lone, Nothing}
+use Rattle.awk_grammar.specs.Trees.{count, Tree, Var, Index, Field, Group, Call, Apply, Unary, Pre, Post, Bin, Has, HasList, Cond, GetInto, GetFrom, GetIntoFrom, Trees, NoTree, Then, Args, NoArgs, Listed, Enclosed, Target, NoTarget, Written, Appended, Plain, Eval, Put, Delete, Clear, Stmt, Block, Simple, If, IfElse, While, Do, For, ForIn, Leave, Stmts, NoStmt, And, Pattern, One, Between, Item, Function, Begin, End, Always, When, Lone, Nothing}
 
 pub data Kind : Type 0 where
-  Array : Kind
-  Scalar : Kind
+  Array Scalar : Kind
 
 -- `place` is the function in whose body the name stands
 pub data Mark : Type 0 where
@@ -52,8 +51,6 @@ computed_marks f i (Then t ts) = unless_named (Computed f i) (bare_name t) ++ co
 module _ (place : Option (List ℕ)) where
   abbrev mutual
     pub marks : Tree → List Mark
-    marks (Leaf c) = []
-    marks Length = []
     marks (Var x) = Used Scalar place x ∷ []
     marks (Index x ts) = Used Array place x ∷ all_marks ts
     marks (Field t) = marks t
@@ -67,10 +64,10 @@ module _ (place : Option (List ℕ)) where
     marks (Has t x) = marks t ++ Used Array place x ∷ []
     marks (HasList t ts x) = marks t ++ (all_marks ts ++ Used Array place x ∷ [])
     marks (Cond c a b) = marks c ++ (marks a ++ marks b)
-    marks Get = []
     marks (GetInto v) = marks v
     marks (GetFrom s) = marks s
     marks (GetIntoFrom v s) = marks v ++ marks s
+    marks _ = []
 
     pub all_marks : Trees → List Mark
     all_marks NoTree = []
@@ -113,7 +110,6 @@ module _ (place : Option (List ℕ)) where
   abbrev mutual
     pub stmt_marks : Stmt → List Mark
     stmt_marks (Block ss) = stmts_marks ss
-    stmt_marks Empty = []
     stmt_marks (Simple p) = plain_marks p
     stmt_marks (If c s) = marks c ++ stmt_marks s
     stmt_marks (IfElse c s t) = marks c ++ (stmt_marks s ++ stmt_marks t)
@@ -121,8 +117,8 @@ module _ (place : Option (List ℕ)) where
     stmt_marks (Do s c) = stmt_marks s ++ marks c
     stmt_marks (For i c p s) = maybe_plain_marks i ++ (maybe_marks c ++ (maybe_plain_marks p ++ stmt_marks s))
     stmt_marks (ForIn k x s) = Used Scalar place k ∷ (Used Array place x ∷ stmt_marks s)
-    stmt_marks (Jumping j) = []
     stmt_marks (Leave l t) = maybe_marks t
+    stmt_marks _ = []
 
     pub stmts_marks : Stmts → List Mark
     stmts_marks NoStmt = []

@@ -1,9 +1,9 @@
 -- Reading items from the front of the tokens.
 use Rattle.std.specs.Prelude.{ℕ, zero, suc, ◌+◌, true, List, [], ◌∷◌, length, Option, Some, None, Result, Ok, Err}
-use Rattle.awk_grammar.specs.Token.{BeginWord, EndWord, FunctionWord, Token, Name, OpenBrace, Semicolon, Key, Fault, Syntax}
+use Rattle.awk_grammar.specs.Token.{BeginWord, EndWord, FunctionWord, Token, Name, OpenBrace, Semicolon, Key}
+use Rattle.awk_grammar.specs.Reading.{Fault, Syntax, ◌>>=◌, close_at, name_at, comma_at, expr_at}
 use Rattle.awk_grammar.specs.Tree.{Whole}
 use Rattle.awk_grammar.specs.Trees.{Tree, Stmts, Pattern, One, Between, Item, Function, Begin, End, Always, When, Lone, Nothing}
-use Rattle.awk_grammar.specs.Reading.{◌>>=◌, close_at, name_at, comma_at, expr_at}
 use Rattle.awk_grammar.specs.ReadStmt.{Read, open_here, stmts_at, stmt_at}
 
 abbrev pub body_at : ℕ → List Token → Read Stmts

@@ -1,9 +1,9 @@
 -- Reading statements from the front of the tokens.
 use Rattle.std.specs.Prelude.{ℕ, zero, suc, List, ◌∷◌, length, Option, Some, None, Result, Ok, Err, Bool, true, false, if◌then◌else◌}
-use Rattle.awk_grammar.specs.Token.{Greater, Compare, IfWord, ElseWord, WhileWord, ForWord, DoWord, BreakWord, ContinueWord, NextWord, NextFileWord, ExitWord, ReturnWord, DeleteWord, PrintWord, PrintfWord, Token, Lit, Name, FuncName, Word, GetlineWord, InWord, Dollar, Open, Close, OpenBracket, OpenBrace, CloseBrace, Comma, Semicolon, SignMark, NotMark, StepMark, Infix, Append, Key, Fault, Syntax, TooDeep}
+use Rattle.awk_grammar.specs.Token.{Greater, Compare, IfWord, ElseWord, WhileWord, ForWord, DoWord, BreakWord, ContinueWord, NextWord, NextFileWord, ExitWord, ReturnWord, DeleteWord, PrintWord, PrintfWord, Token, Lit, Name, FuncName, Word, GetlineWord, InWord, Dollar, Open, Close, OpenBracket, OpenBrace, CloseBrace, Comma, Semicolon, SignMark, NotMark, StepMark, Infix, Append, Key}
+use Rattle.awk_grammar.specs.Reading.{Fault, Syntax, TooDeep, ◌>>=◌, Reader, close_at, bracket_at, name_at, list_at, expr_at}
 use Rattle.awk_grammar.specs.Tree.{Whole, AfterCompare}
 use Rattle.awk_grammar.specs.Trees.{Tree, Trees, Printing, Print, Printf, Args, NoArgs, Listed, Enclosed, Target, NoTarget, Written, Appended, Plain, Eval, Put, Delete, Clear, Jump, Break, Continue, Next, NextFile, Leaving, Exit, Return, Stmt, Block, Empty, Simple, If, IfElse, While, Do, For, ForIn, Jumping, Leave, Stmts, NoStmt, And}
-use Rattle.awk_grammar.specs.Reading.{◌>>=◌, Reader, close_at, bracket_at, name_at, list_at, expr_at}
 
 abbrev pub Read : Type 0 → Type 0
 Read A = Result (A × List Token) Fault

@@ -1,10 +1,15 @@
 -- Reading an expression from the front of the tokens.
 use Rattle.std.specs.Prelude.{ℕ, zero, suc, List, ◌∷◌, length, Option, Some, None, Result, Ok, Err, nat_lt, Bool, true, false, ◌||◌, ◌&&◌, if◌then◌else◌}
-use Rattle.awk_grammar.specs.Token.{Not, Signed, Step, Less, Compare, Token, Lit, Name, FuncName, Word, GetlineWord, InWord, Dollar, Open, Close, OpenBracket, CloseBracket, Comma, Question, Colon, SignMark, NotMark, StepMark, Infix, Fault, Syntax, TooDeep}
+use Rattle.awk_grammar.specs.Token.{Not, Signed, Step, Less, Compare, Token, Lit, Name, FuncName, Word, GetlineWord, InWord, Dollar, Open, Close, OpenBracket, CloseBracket, Comma, Question, Colon, SignMark, NotMark, StepMark, Infix}
 use Rattle.awk_tokens.specs.declared.reserved_words.Builtin.{Builtin}
 use Rattle.awk_tokens.specs.declared.reserved_words.Builtin.TheVariants.{Length as LengthOf}
 use Rattle.awk_grammar.specs.Tree.{op_level, op_left, op_right, Mode, Whole, Factor, Plain, LValue, InField, floor, normal, fits, edge, class_at, is_start, takes, allowed, suits}
 use Rattle.awk_grammar.specs.Trees.{Op, Join, Add, Other, Tree, Leaf, Length, Var, Index, Field, Group, Call, Apply, Unary, Pre, Post, Bin, Has, HasList, Cond, Get, GetInto, GetFrom, GetIntoFrom, Trees, NoTree, Then, depth}
+
+-- why no tree is read
+pub data Fault : Type 0 where
+  Syntax : Fault
+  TooDeep : Fault
 
 infixl 10 ◌>>=◌
 abbrev pub ◌>>=◌ : {A B : Type 0} → Result A Fault → (A → Result B Fault) → Result B Fault

@@ -15,20 +15,17 @@ mutual
     Length : Tree
     Var : List ℕ → Tree
     Index : List ℕ → Trees → Tree
-    Field : Tree → Tree
-    Group : Tree → Tree
+    Field Group : Tree → Tree
     Call : List ℕ → Trees → Tree
     Apply : Builtin → Trees → Tree
     Unary : Prefix → Tree → Tree
-    Pre : Step → Tree → Tree
-    Post : Step → Tree → Tree
+    Pre Post : Step → Tree → Tree
     Bin : Op → Tree → Tree → Tree
     Has : Tree → List ℕ → Tree
     HasList : Tree → Trees → List ℕ → Tree
     Cond : Tree → Tree → Tree → Tree
     Get : Tree
-    GetInto : Tree → Tree
-    GetFrom : Tree → Tree
+    GetInto GetFrom : Tree → Tree
     GetIntoFrom : Tree → Tree → Tree
 
   pub data Trees : Type 0 where
@@ -45,8 +42,7 @@ prefix_token Not = NotMark
 prefix_token (Signed s) = SignMark s
 
 pub data Printing : Type 0 where
-  Print : Printing
-  Printf : Printing
+  Print Printf : Printing
 
 pub data Args : Type 0 where
   NoArgs : Args
@@ -55,8 +51,7 @@ pub data Args : Type 0 where
 
 pub data Target : Type 0 where
   NoTarget : Target
-  Written : Tree → Target
-  Appended : Tree → Target
+  Written Appended : Tree → Target
 
 -- what may also stand in the head of a `for`
 pub data Plain : Type 0 where
@@ -66,14 +61,10 @@ pub data Plain : Type 0 where
   Clear : List ℕ → Plain
 
 pub data Jump : Type 0 where
-  Break : Jump
-  Continue : Jump
-  Next : Jump
-  NextFile : Jump
+  Break Continue Next NextFile : Jump
 
 pub data Leaving : Type 0 where
-  Exit : Leaving
-  Return : Leaving
+  Exit Return : Leaving
 
 mutual
   pub data Stmt : Type 0 where
@@ -109,9 +100,7 @@ pub data Pattern : Type 0 where
 
 pub data Item : Type 0 where
   Function : List ℕ → List (List ℕ) → Stmts → Item
-  Begin : Stmts → Item
-  End : Stmts → Item
-  Always : Stmts → Item
+  Begin End Always : Stmts → Item
   When : Pattern → Stmts → Item
   Lone : Pattern → Item
   Nothing : Item
@@ -120,9 +109,6 @@ pub data Item : Type 0 where
 
 abbrev mutual
   pub depth : Tree → ℕ
-  depth (Leaf c) = 1
-  depth Length = 1
-  depth (Var n) = 1
   depth (Index n ts) = depths ts + 1
   depth (Field t) = depth t + 1
   depth (Group t) = depth t + 1
@@ -135,10 +121,10 @@ abbrev mutual
   depth (Has a n) = depth a + 1
   depth (HasList t ts n) = max (depth t) (depths ts) + 1
   depth (Cond a b c) = max (depth a) (max (depth b) (depth c)) + 1
-  depth Get = 1
   depth (GetInto v) = depth v + 1
   depth (GetFrom s) = depth s + 1
   depth (GetIntoFrom v s) = max (depth v) (depth s) + 1
+  depth _ = 1
 
   pub depths : Trees → ℕ
   depths NoTree = 0
@@ -171,7 +157,6 @@ maybe_plain_depth (Some p) = plain_depth p
 abbrev mutual
   pub stmt_depth : Stmt → ℕ
   stmt_depth (Block ss) = stmts_depth ss + 1
-  stmt_depth Empty = 1
   stmt_depth (Simple p) = plain_depth p + 1
   stmt_depth (If c s) = max (depth c) (stmt_depth s) + 1
   stmt_depth (IfElse c s t) = max (depth c) (max (stmt_depth s) (stmt_depth t)) + 1
@@ -179,8 +164,8 @@ abbrev mutual
   stmt_depth (Do s c) = max (stmt_depth s) (depth c) + 1
   stmt_depth (For i c p s) = max (max (maybe_plain_depth i) (maybe_depth c)) (max (maybe_plain_depth p) (stmt_depth s)) + 1
   stmt_depth (ForIn k a s) = stmt_depth s + 1
-  stmt_depth (Jumping j) = 1
   stmt_depth (Leave l e) = maybe_depth e + 1
+  stmt_depth _ = 1
 
   pub stmts_depth : Stmts → ℕ
   stmts_depth NoStmt = 0

@@ -2,7 +2,8 @@
 
 ghost use Rattle.std.specs.Prelude.{◌≡◌, ℕ, ◌≤◌, List, Ok, Err};
 ghost use Rattle.awk_tokens.specs.Cutting.{Spelled};
-ghost use Rattle.awk_grammar.specs.Token.{Token, Syntax};
+ghost use Rattle.awk_grammar.specs.Token.{Token};
+ghost use Rattle.awk_grammar.specs.Reading.{Syntax};
 ghost use Rattle.awk_grammar.specs.Item.{IsScript, print_script};
 ghost use Rattle.awk_grammar.specs.Trees.{Item, script_depth};
 ghost use Rattle.awk_grammar.specs.ReadItem.{script_at};

@@ -1,9 +1,9 @@
 -- Expressions: an operand, the step after it, and the operators after that in a loop.
 use Rattle.std.proofs.Common.{◌≡◌, ℕ, zero, suc, ◌+◌, ◌-◌, ◌<◌, Bool, true, false, cond, ltb, Option, Some, None, List, length, Ok, Err, refl, ap, subst, ◌∙◌, arith}
-use Rattle.awk_grammar.specs.Token.{Token, TooDeep}
+use Rattle.awk_grammar.specs.Token.{Token}
+use Rattle.awk_grammar.specs.Reading.{TooDeep, ◌>>=◌, Read, Reader, Link, link_at, stops, after, checked, goes_on, climb, expr_at, first_at, fitting, posted}
 use Rattle.awk_grammar.specs.Tree.{Mode, floor}
 use Rattle.awk_grammar.specs.Trees.{Tree, depth}
-use Rattle.awk_grammar.specs.Reading.{◌>>=◌, Read, Reader, Link, link_at, stops, after, checked, goes_on, climb, expr_at, first_at, fitting, posted}
 use Rattle.awk_grammar.proofs.Sound.{that_is}
 use Rattle.awk_parse.specs.declared.refusal.Refusal.{Refusal}
 use Rattle.awk_parse.specs.Operands.{done, fitted_at, joining_by, joining_at}

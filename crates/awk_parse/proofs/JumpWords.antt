@@ -12,7 +12,8 @@ use Rattle.awk_grammar.specs.Tree.{op_tokens, print, print_list, print_more}
 use Rattle.awk_grammar.specs.Trees.{Tree, Leaf, Length, Var, Index, Field, Group, Call, Apply, Unary, Pre, Post, Bin, Has, HasList, Cond, Get, GetInto, GetFrom, GetIntoFrom, Trees, NoTree, Then, Op, Join, Add, Other, prefix_token, Printing, Args, NoArgs, Listed, Enclosed, Target, NoTarget, Written, Appended, Plain, Eval, Put, Print, Printf, Delete, Clear, Jump, Break, Continue, Next, NextFile, Leaving, Exit, Return, Stmt, Block, Empty, Simple, If, IfElse, While, Do, For, ForIn, Jumping, Leave, Stmts, NoStmt, And, Pattern, One, Between, Item, Function, Begin, End, Always, When, Lone, Nothing}
 use Rattle.awk_grammar.specs.Stmt.{print_args, print_target, print_plain, print_maybe, print_maybe_plain, print_stmt, print_stmts}
 use Rattle.awk_grammar.specs.Item.{print_body, print_names, print_params, print_pattern, print_item, print_script}
-use Rattle.awk_grammar.specs.Lexeme.{keyword_lexeme, mark_lexeme, spoken_as, spoken_after, is_function as is_function_word}
+use Rattle.awk_grammar.specs.Lexeme.{spoken_as, spoken_after, is_function as is_function_word}
+use Rattle.awk_grammar.specs.LexemeCases.{keyword_lexeme, mark_lexeme}
 use Rattle.awk_grammar.specs.TreeOf.{IsTreeOf}
 use Rattle.awk_parse.specs.Jumps.{jumps, all_jumps, jump_fits, leave_fits, item_jumps, script_jumps, is_jump, line_if, jump_lines}
 use Rattle.awk_parse.specs.declared.placed.Place.{Place}

@@ -1,9 +1,9 @@
 -- Reading a list in a loop.
 use Rattle.std.proofs.Common.{◌≡◌, ℕ, zero, suc, ◌+◌, ◌-◌, ◌<◌, max, Bool, true, Option, Some, None, List, [], ◌∷◌, ◌++◌, length, Result, Ok, Err, refl, sym, ap, subst, ◌∙◌, arith}
-use Rattle.awk_grammar.specs.Token.{Token, Fault, Syntax, Close}
+use Rattle.awk_grammar.specs.Token.{Token, Close}
+use Rattle.awk_grammar.specs.Reading.{Fault, Syntax, ◌>>=◌, Read, ReadMany, Reader, close_at, comma_at, more_at, list_at, arguments_at}
 use Rattle.awk_grammar.specs.Tree.{Whole}
 use Rattle.awk_grammar.specs.Trees.{Tree, Trees, NoTree, Then, depth, depths}
-use Rattle.awk_grammar.specs.Reading.{◌>>=◌, Read, ReadMany, Reader, close_at, comma_at, more_at, list_at, arguments_at}
 use Rattle.awk_grammar.specs.View.{view, views}
 use Rattle.awk_grammar.specs.declared.tree.Expr.{Expr}
 use Rattle.awk_parse.specs.declared.refusal.Refusal.{Refusal}

@@ -3,8 +3,8 @@ use Rattle.std.proofs.Common.{◌≡◌, ℕ, zero, suc, ◌+◌, ◌-◌, ◌<�
 use Rattle.std.proofs.lemmas.List.{append-nil}
 use Rattle.std.specs.declared.vec.Vec.{Vec}
 use Rattle.std.specs.declared.alloc.Global.{Global}
-use Rattle.awk_grammar.specs.Token.{Token, Fault, Syntax, Name}
-use Rattle.awk_grammar.specs.Reading.{◌>>=◌, comma_at, name_at}
+use Rattle.awk_grammar.specs.Token.{Token, Name}
+use Rattle.awk_grammar.specs.Reading.{Fault, Syntax, ◌>>=◌, comma_at, name_at}
 use Rattle.awk_grammar.specs.ReadStmt.{Read}
 use Rattle.awk_grammar.specs.ReadItem.{names_at, params_at}
 use Rattle.awk_grammar.specs.ViewStmt.{view_names}

@@ -5,8 +5,8 @@ use Rattle.awk_tokens.specs.Cutting.{Spelled}
 use Rattle.awk_tokens.specs.Views.{spelled}
 use Rattle.awk_tokens.specs.declared.token.Token.{Token as ScriptToken}
 use Rattle.awk_grammar.specs.Lexeme.{spoken_after, is_function}
-use Rattle.awk_grammar.specs.Token.{Token, Fault}
-use Rattle.awk_grammar.specs.Reading.{◌>>=◌}
+use Rattle.awk_grammar.specs.Token.{Token}
+use Rattle.awk_grammar.specs.Reading.{Fault, ◌>>=◌}
 use Rattle.awk_grammar.specs.ReadStmt.{Read}
 use Rattle.awk_parse.specs.declared.refusal.Refusal.{Refusal}
 use Rattle.awk_parse.specs.declared.refusal.Refusal.TheVariants as refusals

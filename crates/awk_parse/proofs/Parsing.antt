@@ -7,7 +7,8 @@ use Rattle.awk_tokens.specs.Cutting.{Spelled}
 use Rattle.awk_tokens.specs.declared.token.Punctuator.TheVariants.{Pipe}
 use Rattle.awk_tokens.specs.declared.token.TokenKind.{TokenKind}
 use Rattle.awk_tokens.specs.declared.token.TokenKind.TheVariants.{Number, LeftOut as LeftOutWord, Punctuator}
-use Rattle.awk_grammar.specs.Token.{Token, Fault, Syntax as SyntaxFault, TooDeep as TooDeepFault}
+use Rattle.awk_grammar.specs.Token.{Token}
+use Rattle.awk_grammar.specs.Reading.{Fault, Syntax as SyntaxFault, TooDeep as TooDeepFault}
 use Rattle.awk_grammar.specs.Item.{IsScript, print_script}
 use Rattle.awk_grammar.specs.Trees.{Item, script_depth}
 use Rattle.awk_grammar.specs.Lexeme.{spoken}

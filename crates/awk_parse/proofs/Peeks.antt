@@ -1,7 +1,7 @@
 -- The head of a loop over keys.
 use Rattle.std.proofs.Common.{◌≡◌, ℕ, ◌∙◌, List, ◌∷◌, Some, None, Ok, Err, ap, refl}
-use Rattle.awk_grammar.specs.Token.{Token as Lexeme, Name, InWord, Close, Syntax}
-use Rattle.awk_grammar.specs.Reading.{name_at, in_at, close_at}
+use Rattle.awk_grammar.specs.Token.{Token as Lexeme, Name, InWord, Close}
+use Rattle.awk_grammar.specs.Reading.{Syntax, name_at, in_at, close_at}
 use Rattle.awk_grammar.specs.ReadStmt.{keys_at}
 use Rattle.awk_grammar.proofs.Sound.{ok_is, cons, name_ok, close_ok}
 

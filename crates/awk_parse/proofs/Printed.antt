@@ -1,10 +1,10 @@
 -- What `print` has in parentheses, or without.
 use Rattle.std.proofs.Common.{◌≡◌, Bool, true, false, Option, Some, None, List, Ok, Err, refl, sym, subst, ◌∙◌}
 use Rattle.std.specs.Prelude.{if◌then◌else◌}
-use Rattle.awk_grammar.specs.Token.{Token, Syntax, TooDeep}
+use Rattle.awk_grammar.specs.Token.{Token}
+use Rattle.awk_grammar.specs.Reading.{Syntax, TooDeep, ◌>>=◌, Reader, close_at, list_at}
 use Rattle.awk_grammar.specs.Tree.{Whole}
 use Rattle.awk_grammar.specs.Trees.{Tree, Trees, Printing, Args, Enclosed}
-use Rattle.awk_grammar.specs.Reading.{◌>>=◌, Reader, close_at, list_at}
 use Rattle.awk_grammar.specs.ReadStmt.{Read, starts_expr, open_here, comma_here, is_in, enclosed_at, listed_at, args_by, args_at}
 use Rattle.awk_parse.specs.declared.refusal.Refusal.{Refusal}
 use Rattle.awk_parse.specs.declared.refusal.Refusal.TheVariants as refusals

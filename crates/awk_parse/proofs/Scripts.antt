@@ -1,8 +1,8 @@
 -- Reading the items of a script in a loop.
 use Rattle.std.proofs.Common.{◌≡◌, ℕ, suc, ◌+◌, ◌-◌, ◌<◌, Option, Some, None, List, [], ◌∷◌, ◌++◌, length, Result, Ok, Err, refl, sym, ap, subst, ◌∙◌, arith, append_assoc}
 use Rattle.std.proofs.lemmas.List.{append-nil}
-use Rattle.awk_grammar.specs.Token.{Token, Fault, Syntax, Name, OpenBrace, Semicolon}
-use Rattle.awk_grammar.specs.Reading.{◌>>=◌, name_at}
+use Rattle.awk_grammar.specs.Token.{Token, Name, OpenBrace, Semicolon}
+use Rattle.awk_grammar.specs.Reading.{Fault, Syntax, ◌>>=◌, name_at}
 use Rattle.awk_grammar.specs.Trees.{Item, Pattern, When, Lone}
 use Rattle.awk_grammar.specs.ReadStmt.{Read, stmt_at, stmts_at, semicolon_at}
 use Rattle.awk_grammar.specs.ReadItem.{function_by, function_at, body_at, action_at, item_at, items_at, script_at}

@@ -1,9 +1,9 @@
 -- Operands by what they begin with.
 use Rattle.std.proofs.Common.{◌≡◌, Bool, Option, Some, None, List, ◌∷◌, Err, refl, ap, ◌∙◌}
-use Rattle.awk_grammar.specs.Token.{Token, Syntax, Lit, Name, FuncName, Word, GetlineWord, Dollar, Open, SignMark, NotMark, StepMark}
+use Rattle.awk_grammar.specs.Token.{Token, Lit, Name, FuncName, Word, GetlineWord, Dollar, Open, SignMark, NotMark, StepMark}
+use Rattle.awk_grammar.specs.Reading.{Syntax, Reader, first_at}
 use Rattle.awk_grammar.specs.Tree.{Mode}
 use Rattle.awk_grammar.specs.Trees.{Tree}
-use Rattle.awk_grammar.specs.Reading.{Reader, first_at}
 use Rattle.awk_parse.specs.declared.refusal.Refusal.{Refusal}
 use Rattle.awk_parse.specs.Starts.{Start, start_at, begun_at, begun_by}
 use Rattle.awk_parse.specs.Parsed.{At, stands, Parsed}

@@ -1,7 +1,7 @@
 -- Items, simple statements and statements by what they begin with.
 use Rattle.std.proofs.Common.{◌≡◌, ℕ, zero, suc, ◌-◌, ◌<◌, Option, Some, None, Err, List, ◌∷◌, refl, ap, ◌∙◌, arith}
-use Rattle.awk_grammar.specs.Token.{Token, TooDeep, Infix, Compare, Greater, Append, OpenBrace, OpenBracket, Semicolon, Key, FunctionWord, BeginWord, EndWord, PrintWord, PrintfWord, DeleteWord, IfWord, WhileWord, DoWord, ForWord, BreakWord, ContinueWord, NextWord, NextFileWord, ExitWord, ReturnWord}
-use Rattle.awk_grammar.specs.Reading.{◌>>=◌, Reader, index_at, close_at, expr_at}
+use Rattle.awk_grammar.specs.Token.{Token, Infix, Compare, Greater, Append, OpenBrace, OpenBracket, Semicolon, Key, FunctionWord, BeginWord, EndWord, PrintWord, PrintfWord, DeleteWord, IfWord, WhileWord, DoWord, ForWord, BreakWord, ContinueWord, NextWord, NextFileWord, ExitWord, ReturnWord}
+use Rattle.awk_grammar.specs.Reading.{TooDeep, ◌>>=◌, Reader, index_at, close_at, expr_at}
 use Rattle.awk_grammar.specs.Trees.{Stmt}
 use Rattle.awk_grammar.specs.ReadStmt.{Read, StmtReader, target_at, delete_by, plain_at, one_at, stmt_at, for_by, keys_at, open_here, semicolon_at, condition_at, maybe_at, maybe_plain_at}
 use Rattle.awk_grammar.specs.ReadItem.{item_at}

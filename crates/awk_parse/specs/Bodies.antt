@@ -2,10 +2,10 @@
 use Rattle.std.specs.Prelude.{ℕ, true, List, Option, Some, None, Result, Ok, Err, if◌then◌else◌}
 use Rattle.std.specs.declared.boxed.Box.{Box}
 use Rattle.std.specs.declared.alloc.Global.{Global}
-use Rattle.awk_grammar.specs.Token.{Token, Fault, Syntax}
+use Rattle.awk_grammar.specs.Token.{Token}
+use Rattle.awk_grammar.specs.Reading.{Fault, Syntax, ◌>>=◌, Reader, close_at, list_at}
 use Rattle.awk_grammar.specs.Tree.{Whole}
 use Rattle.awk_grammar.specs.Trees.{Tree, Stmt, Empty, If, IfElse, While, Do, For, ForIn, Jumping, Leave, Plain, Args, Enclosed, Stmts, NoStmt, And}
-use Rattle.awk_grammar.specs.Reading.{◌>>=◌, Reader, close_at, list_at}
 use Rattle.awk_grammar.specs.ReadStmt.{Read, StmtReader, is_in, open_here, comma_here, while_at, condition_at, semicolon_at, maybe_at, maybe_plain_at, keys_at, loop_at, do_at, for_at}
 use Rattle.awk_grammar.specs.ViewStmt.{view_stmt, view_maybe, view_maybe_simple, view_jump, view_leaving}
 use Rattle.awk_grammar.specs.View.{view}

@@ -4,7 +4,7 @@ use Rattle.awk_tokens.specs.Cutting.{Spelled}
 use Rattle.awk_tokens.specs.declared.reserved_words.Keyword.TheVariants.{Break as BreakWord, Continue as ContinueWord, Next as NextWord, NextFile as NextFileWord, Return as ReturnWord}
 use Rattle.awk_tokens.specs.declared.token.TokenKind.{TokenKind}
 use Rattle.awk_tokens.specs.declared.token.TokenKind.TheVariants.{Keyword}
-use Rattle.awk_grammar.specs.Trees.{Jump, Break, Continue, Next, NextFile, Leaving, Exit, Return, Stmt, Block, Empty, Simple, If, IfElse, While, Do, For, ForIn, Jumping, Leave, Stmts, NoStmt, And, Item, Function, Begin, End, Always, When, Lone, Nothing}
+use Rattle.awk_grammar.specs.Trees.{Jump, Break, Continue, Next, NextFile, Leaving, Exit, Return, Stmt, Block, If, IfElse, While, Do, For, ForIn, Jumping, Leave, Stmts, NoStmt, And, Item, Function, Begin, End, Always, When}
 use Rattle.awk_parse.specs.declared.placed.Place.{Place}
 use Rattle.awk_parse.specs.declared.placed.Place.TheVariants.{InFunction, InBeginOrEnd, InRule}
 
@@ -31,8 +31,6 @@ leave_fits place Return = is_function place ∷ []
 abbrev mutual
   pub jumps : Place → Bool → Stmt → List Bool
   jumps place looped (Block ss) = all_jumps place looped ss
-  jumps place looped Empty = []
-  jumps place looped (Simple s) = []
   jumps place looped (If c s) = jumps place looped s
   jumps place looped (IfElse c s t) = jumps place looped s ++ jumps place looped t
   jumps place looped (While c s) = jumps place true s
@@ -41,6 +39,7 @@ abbrev mutual
   jumps place looped (ForIn k a s) = jumps place true s
   jumps place looped (Jumping j) = jump_fits place looped j ∷ []
   jumps place looped (Leave l e) = leave_fits place l
+  jumps place looped _ = []
 
   pub all_jumps : Place → Bool → Stmts → List Bool
   all_jumps place looped NoStmt = []
@@ -52,8 +51,7 @@ item_jumps (Begin ss) = all_jumps InBeginOrEnd false ss
 item_jumps (End ss) = all_jumps InBeginOrEnd false ss
 item_jumps (Always ss) = all_jumps InRule false ss
 item_jumps (When p ss) = all_jumps InRule false ss
-item_jumps (Lone p) = []
-item_jumps Nothing = []
+item_jumps _ = []
 
 abbrev pub script_jumps : List Item → List Bool
 script_jumps [] = []

@@ -1,7 +1,7 @@
 -- The tokens by which the grammar is read: one that may come, and one that must.
 use Rattle.std.specs.Prelude.{List, ◌∷◌, Option, Some, None, Result, Ok, Err}
-use Rattle.awk_grammar.specs.Token.{Token, Fault, Syntax, Open, Close, OpenBracket, CloseBracket, OpenBrace, CloseBrace, Comma, Colon, Semicolon, Infix, Compare, Less, InWord, Key, ElseWord, WhileWord}
-use Rattle.awk_grammar.specs.Reading.{open_at, index_at, comma_at, less_at, close_at, bracket_at, colon_at, in_at}
+use Rattle.awk_grammar.specs.Token.{Token, Open, Close, OpenBracket, CloseBracket, OpenBrace, CloseBrace, Comma, Colon, Semicolon, Infix, Compare, Less, InWord, Key, ElseWord, WhileWord}
+use Rattle.awk_grammar.specs.Reading.{Fault, Syntax, open_at, index_at, comma_at, less_at, close_at, bracket_at, colon_at, in_at}
 use Rattle.awk_grammar.specs.ReadStmt.{open_here, comma_here, semicolon_at, while_at, else_at, brace_at}
 use Rattle.awk_parse.specs.declared.mark.Mark.{Mark}
 use Rattle.awk_parse.specs.declared.mark.Mark.TheVariants as marks

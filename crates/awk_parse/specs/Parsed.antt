@@ -1,6 +1,7 @@
 -- What reading gave, by what was left before and after.
 use Rattle.std.specs.Prelude.{◌≡◌, List, Option, Some, None, Result, Ok, Err}
-use Rattle.awk_grammar.specs.Token.{Token, Fault}
+use Rattle.awk_grammar.specs.Token.{Token}
+use Rattle.awk_grammar.specs.Reading.{Fault}
 use Rattle.awk_grammar.specs.ReadStmt.{Read}
 use Rattle.awk_parse.specs.declared.refusal.Refusal.{Refusal}
 use Rattle.awk_parse.specs.declared.refusal.Refusal.TheVariants as refusals

@@ -3,11 +3,11 @@ use Rattle.std.specs.Prelude.{◌≡◌, ℕ, Bool, true, false, List, [], ◌�
 use Rattle.awk_tokens.specs.declared.token.Token.{Token}
 use Rattle.awk_tokens.specs.Views.{spelled}
 use Rattle.awk_tokens.specs.Cutting.{Spelled}
-use Rattle.awk_grammar.specs.Token.{Token as Lexeme, Fault, Syntax, TooDeep, Lit, Name, FuncName, Word, GetlineWord, InWord, Dollar, Open, NotMark, StepMark, SignMark, Infix, Question, Assign}
+use Rattle.awk_grammar.specs.Token.{Token as Lexeme, Lit, Name, FuncName, Word, GetlineWord, InWord, Dollar, Open, NotMark, StepMark, SignMark, Infix, Question, Assign}
+use Rattle.awk_grammar.specs.Reading.{Fault, Syntax, TooDeep, Link, Joined, Within, Chosen}
 use Rattle.awk_grammar.specs.Tree.{Mode, Whole, AfterOr, AfterAnd, AfterMatch, AfterCompare, AfterJoin, AfterAdd, Factor, Plain, LValue, InField, allowed}
 use Rattle.awk_grammar.specs.Trees.{Op, Add, Other}
 use Rattle.awk_grammar.specs.Lexeme.{spoken, spoken_as}
-use Rattle.awk_grammar.specs.Reading.{Link, Joined, Within, Chosen}
 use Rattle.awk_grammar.specs.View.{view_binary, view_assign}
 use Rattle.awk_parse.specs.declared.refusal.Refusal.{Refusal}
 use Rattle.awk_parse.specs.declared.refusal.Refusal.TheVariants as refusals

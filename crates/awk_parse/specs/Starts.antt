@@ -1,10 +1,10 @@
 -- What an operand begins with, and the tokens after that.
 use Rattle.std.specs.Prelude.{ℕ, Bool, List, ◌∷◌, Option, Some, None, Ok, Err}
 use Rattle.awk_tokens.specs.declared.reserved_words.Builtin.{Builtin}
-use Rattle.awk_grammar.specs.Token.{Token, Literal, Number, Quoted, Ere, Prefix as Sign, Not, Signed, Step, Lit, Name, FuncName, Word, GetlineWord, Dollar, Open, SignMark, NotMark, StepMark, Syntax}
+use Rattle.awk_grammar.specs.Token.{Token, Literal, Number, Quoted, Ere, Prefix as Sign, Not, Signed, Step, Lit, Name, FuncName, Word, GetlineWord, Dollar, Open, SignMark, NotMark, StepMark}
+use Rattle.awk_grammar.specs.Reading.{Syntax, ◌>>=◌, Read, Reader, indexed_by, call_by, applied_by, getline_at, open_at, index_at, under}
 use Rattle.awk_grammar.specs.Tree.{Mode, LValue, InField}
 use Rattle.awk_grammar.specs.Trees.{Tree, Leaf, Field, Unary, Pre}
-use Rattle.awk_grammar.specs.Reading.{◌>>=◌, Read, Reader, indexed_by, call_by, applied_by, getline_at, open_at, index_at, under}
 use Rattle.awk_grammar.specs.View.{view_unary, view_step}
 use Rattle.awk_parse.specs.Operands.{paren_at}
 use Rattle.awk_parse.specs.declared.start.Literal.{Literal as Literal'}

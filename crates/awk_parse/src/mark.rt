@@ -2,7 +2,7 @@
 
 ghost use Rattle.std.specs.Prelude.{◌≡◌, MatchOption, None, Some, Ok, Err};
 ghost use Rattle.awk_tokens.specs.Views.{spelled};
-ghost use Rattle.awk_grammar.specs.Token.{Syntax as SyntaxFault};
+ghost use Rattle.awk_grammar.specs.Reading.{Syntax as SyntaxFault};
 ghost use Rattle.awk_parse.specs.Marks.{mark_at, mark_if, mark_of};
 ghost use Rattle.awk_parse.specs.Seen.{lexeme_of, seen};
 

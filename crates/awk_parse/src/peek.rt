@@ -1,10 +1,9 @@
 //! What the first tokens are.
 
 ghost use Rattle.std.specs.Prelude.{◌≡◌, MatchOption, None, Some, Ok, Err, map};
-ghost use Rattle.awk_grammar.specs.Token.{Syntax as SyntaxFault};
+ghost use Rattle.awk_grammar.specs.Reading.{Syntax as SyntaxFault, step_at, link_at, link_level, link_left, stops, name_at};
 ghost use Rattle.awk_tokens.specs.Views.{spelled};
-ghost use Rattle.awk_grammar.specs.Lexeme.{mark_lexeme};
-ghost use Rattle.awk_grammar.specs.Reading.{step_at, link_at, link_level, link_left, stops, name_at};
+ghost use Rattle.awk_grammar.specs.LexemeCases.{mark_lexeme};
 ghost use Rattle.awk_grammar.specs.ReadStmt.{starts_expr};
 ghost use Rattle.awk_grammar.specs.Shape.{view_next};
 ghost use Rattle.awk_grammar.specs.Tree.{class_at, is_start};

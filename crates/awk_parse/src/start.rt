@@ -1,7 +1,7 @@
 //! What an operand begins with.
 
 ghost use Rattle.std.specs.Prelude.{◌≡◌, ◌∷◌, MatchOption, Some, None};
-ghost use Rattle.awk_grammar.specs.Lexeme.{mark_lexeme};
+ghost use Rattle.awk_grammar.specs.LexemeCases.{mark_lexeme};
 ghost use Rattle.awk_grammar.specs.Trees.{Leaf};
 ghost use Rattle.awk_grammar.specs.View.{view};
 ghost use Rattle.awk_parse.specs.Seen.{seen, view_mode};

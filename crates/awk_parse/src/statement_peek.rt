@@ -3,8 +3,7 @@
 ghost use Rattle.std.specs.Prelude.{◌≡◌, MatchOption, None, Some, Ok, Err, true, map};
 ghost use Rattle.awk_tokens.specs.Views.{spelled};
 ghost use Rattle.awk_grammar.specs.Lexeme.{spoken_after};
-ghost use Rattle.awk_grammar.specs.Token.{Syntax as SyntaxFault};
-ghost use Rattle.awk_grammar.specs.Reading.{name_at};
+ghost use Rattle.awk_grammar.specs.Reading.{Syntax as SyntaxFault, name_at};
 ghost use Rattle.awk_grammar.specs.ReadStmt.{keys_at, is_in};
 ghost use Rattle.awk_parse.specs.Seen.{seen};
 

@@ -3,7 +3,8 @@
 ghost use Rattle.std.specs.Prelude.{◌≡◌, ◌∷◌, MatchOption, None, Some, map};
 ghost use Rattle.awk_tokens.specs.declared.token.TokenKind.TheVariants.{Keyword as OfWord};
 ghost use Rattle.awk_tokens.specs.Views.{spelled};
-ghost use Rattle.awk_grammar.specs.Lexeme.{is_function, keyword_lexeme, spoken_after};
+ghost use Rattle.awk_grammar.specs.Lexeme.{is_function, spoken_after};
+ghost use Rattle.awk_grammar.specs.LexemeCases.{keyword_lexeme};
 ghost use Rattle.awk_grammar.specs.View.{view};
 ghost use Rattle.awk_grammar.specs.ViewStmt.{view_stmts, view_target, view_item};
 ghost use Rattle.awk_parse.specs.Seen.{seen};

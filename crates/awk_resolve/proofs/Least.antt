@@ -3,7 +3,8 @@ use Rattle.std.proofs.Common.{◌≡◌, Bool, true, false, ◌||◌, ◌&&◌, 
 use Rattle.std.specs.List.{list_any}
 use Rattle.std.proofs.lemmas.List.Elements.{All-nil, All-cons, All-head, All-tail, All-weaker}
 use Rattle.std.proofs.lemmas.List.Folds.{list_any_at}
-use Rattle.awk_grammar.specs.Least.{IsClosed, IsLeast, leads, least}
+use Rattle.awk_grammar.specs.Least.{IsClosed, IsLeast}
+use Rattle.awk_grammar.specs.LeastSets.{leads, least}
 
 or_cases : (a b : Bool) → (a || b) ≡ true → (a ≡ true) ⊎ (b ≡ true)
 or_cases true b h = inl refl

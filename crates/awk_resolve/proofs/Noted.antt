@@ -3,10 +3,10 @@ use Rattle.std.proofs.Common.{◌≡◌, ℕ, Bool, true, false, List, [], ◌�
 use Rattle.std.specs.List.{slice_get}
 use Rattle.std.proofs.lemmas.List.{map-append}
 use Rattle.awk_grammar.specs.Marks.{Kind, Array, Scalar, Mark, Defined, Parameter, Used, Called, Computed, Given}
-use Rattle.awk_grammar.specs.Kinds.{Key, Head, Whole, distinct_parameters, specials, special_arrays, special_scalars, same_kind, with_key, with_keys, with_mark, with_marks, key_in, parameter_at, pair_of, used, members, pairs, variables}
+use Rattle.awk_grammar.specs.Kinds.{Key, Head, Whole, specials, special_arrays, special_scalars, same_kind, with_key, with_keys, with_mark, with_marks, key_in, parameter_at, pair_of, used, members, pairs, variables}
+use Rattle.awk_resolve.specs.ViewVariables.{distinct_parameters, AddsKeys, HasNumber, AreKeys}
 use Rattle.latched.specs.declared.latched_vec.LatchedVec.{LatchedVec}
 use Rattle.awk_resolve.specs.Numbered.{ArePairs, all_if}
-use Rattle.awk_resolve.specs.ViewVariables.{AddsKeys, HasNumber, AreKeys}
 use Rattle.awk_resolve.specs.ViewUses.{numbered, AreUses, Notes, NotesGiven, NotesMark, NotesUses}
 use Rattle.awk_resolve.specs.declared.scopes.Variables.{Variables}
 use Rattle.awk_resolve.specs.declared.uses.Uses.{Uses}

@@ -4,7 +4,8 @@ use Rattle.std.specs.List.{slice_get, list_any}
 use Rattle.std.proofs.lemmas.List.Elements.{All-nil, All-cons, All-head, All-tail}
 use Rattle.awk_grammar.specs.Marks.{Mark, Defined, Parameter, Used, Called, Computed, Given}
 use Rattle.awk_grammar.specs.Kinds.{Key, Head, same_key, with_key, with_keys, with_maybe, with_mark, with_marks, parameter_at, key_in}
-use Rattle.awk_grammar.specs.Least.{IsLeast, least}
+use Rattle.awk_grammar.specs.Least.{IsLeast}
+use Rattle.awk_grammar.specs.LeastSets.{least}
 use Rattle.awk_resolve.specs.Marked.{is_marked, is_marked_in, place}
 use Rattle.awk_resolve.specs.Numbered.{AreNumbers, ArePairs, both_at, both_some}
 use Rattle.awk_resolve.proofs.Names.{key_sound, key_refl}

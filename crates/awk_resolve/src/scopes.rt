@@ -3,11 +3,11 @@
 ghost use Rattle.std.specs.Prelude.{◌≡◌, [], ◌∷◌, false, IfOk};
 ghost use Rattle.std.specs.List.{list_any};
 ghost use Rattle.awk_grammar.specs.ViewStmt.{view_names, view_script};
-ghost use Rattle.awk_grammar.specs.Kinds.{Inside, same_key, heads, head_keys, is_function, parameters_of, parameter_keys, key_in, parameter_at, distinct_parameters};
+ghost use Rattle.awk_grammar.specs.Kinds.{Inside, same_key, heads, head_keys, is_function, parameters_of, parameter_keys, key_in, parameter_at};
+ghost use Rattle.awk_resolve.specs.ViewVariables.{distinct_parameters, AddsKeys, AreKeys, HasNumber};
 ghost use Rattle.awk_resolve.specs.View.{view_place};
 ghost use Rattle.awk_resolve.specs.ViewNames.{head_names, view_heads, view_variable, view_variables, view_parameters, view_maybe_variable};
 ghost use Rattle.awk_resolve.specs.Places.{place_of, ArePlaces};
-ghost use Rattle.awk_resolve.specs.ViewVariables.{AddsKeys, AreKeys, HasNumber};
 
 use crate::placed::{Placed, place_at};
 use awk_grammar::{Item, Script};

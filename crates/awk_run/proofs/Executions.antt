@@ -35,12 +35,14 @@ use Rattle.lower_model.specs.Modules.{module_of}
 use Rattle.lower_model.proofs.CodeFollows.{code_follows}
 use Rattle.script_compiler.specs.Compiled.{IsCompiled}
 use Rattle.run_report.specs.declared.counts.RunCounts.{RunCounts}
-use Rattle.awk_run.specs.Counted.{IsCountedIn, IsCountedOf, Stepped}
+use Rattle.run_modules.specs.Counted.{IsCountedOf, Stepped}
+use Rattle.awk_run.specs.Counted.{IsCountedIn}
 use Rattle.script_places.specs.Passes.{Moment}
-use Rattle.awk_run.specs.Executions.{Choice, ComesToEnd, Executes, ExecutesSoFar, HasExecuted, begun_at, begun_in, end_of, marking, passed_by, script_run, times_begun, times_passed}
-use Rattle.awk_run.proofs.PassedPlaces.{none_passed, one_more_passed, one_passed, settled_same}
-use Rattle.awk_run.proofs.Settling.{none_settled}
-use Rattle.awk_run.proofs.Executing.{added, added_at, ended, leads}
+use Rattle.run_modules.specs.Executions.{Choice, ComesToEnd, Executes, HasExecuted, begun_at, marking, times_begun, times_passed}
+use Rattle.awk_run.specs.Executions.{ExecutesSoFar, begun_in, end_of, passed_by, script_run}
+use Rattle.run_modules.proofs.PassedPlaces.{none_passed, one_more_passed, one_passed, settled_same}
+use Rattle.run_modules.proofs.Settling.{none_settled}
+use Rattle.run_modules.proofs.Executing.{added, added_at, ended, leads}
 
 -- What marks add.
 

@@ -1,11 +1,12 @@
 -- What the module of a script did is what the script does.
 use Rattle.std.proofs.Common.{◌≡◌, inl, inr, ℕ, ◌+◌, List, [], ◌∷◌, map, Option, Some, None, refl, sym, ap, ◌∙◌, subst}
 use Rattle.awk_values.specs.declared.fault.Fault.{Fault}
-use Rattle.sem_primitives.specs.InputMeaning.{to_come}
+use Rattle.sem_primitives.specs.InputParts.{to_come}
 use Rattle.sem_primitives.specs.Jobs.{Opened, JobForm}
 use Rattle.world_core.specs.WorldState.{Action, State}
 use Rattle.sem_scripts.specs.Kinds.{resolved}
-use Rattle.sem_scripts.specs.ScriptRun.{Ending, resolved_run, run_of, setting_in}
+use Rattle.sem_scripts.specs.ScriptRun.{Ending, resolved_run, setting_in}
+use Rattle.sem_scripts.specs.RunOf.{run_of}
 use Rattle.wasm_types.specs.Syntax.{ModuleForm}
 use Rattle.wasm_types.specs.ModuleGrammar.{IsModule}
 use Rattle.wasm_types.specs.Typing.{ModuleOk}
@@ -15,15 +16,16 @@ use Rattle.wasm_model.specs.declared.fault.LinkFault.TheVariants as link
 use Rattle.wasm_model.specs.declared.ends.MachineEnd.{MachineEnd}
 use Rattle.wasm_model.specs.declared.ends.MachineEnd.TheVariants as machine
 use Rattle.module_decoder.proofs.CompleteModule.{one_module}
-use Rattle.agreement.specs.Runs.ToldRuns.{DoesSo, Says, told_by}
+use Rattle.agreement.specs.Runs.ToldRuns.{DoesSo, Says}
+use Rattle.agreement.specs.Runs.MachineEnds.{told_by}
 use Rattle.agreement.proofs.RunsLemmas.Agreeing.{does_so, does_so_there, goes_on_there}
 use Rattle.script_compiler.specs.Compiled.{IsCompiled, Links}
-use Rattle.awk_run.specs.ModuleRun.{Answers, HasRun, IsRunOf, IsUnlinked, run_end, run_output}
+use Rattle.run_modules.specs.ModuleRun.{Answers, HasRun, IsRunOf, IsUnlinked, run_end, run_output}
 use Rattle.awk_run.specs.ScriptRuns.{DoesFound, IsScriptRun, ScriptAnswers, told_of}
 use Rattle.run_report.specs.declared.end.Refusal.TheVariants.{Compile, Decode, Invalid, Link}
 use Rattle.run_report.specs.declared.end.RunEnd.{RunEnd}
 use Rattle.run_report.specs.declared.end.RunEnd.TheVariants as run
-use Rattle.awk_run.proofs.Runs.{has_so, untouched_so}
+use Rattle.run_modules.proofs.Runs.{has_so, untouched_so}
 
 -- what a machine's end says of a script, its answer says
 says : (kept : Option Fault) (t : MachineEnd) (output : List Action) (ending : Ending) → Says (told_by kept t) output ending

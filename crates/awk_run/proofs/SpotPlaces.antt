@@ -20,10 +20,10 @@ use Rattle.agreement.specs.Spots.Probed.{module_place}
 use Rattle.agreement.proofs.SpotsLemmas.InOrder.{module_so}
 use Rattle.script_compiler.specs.Compiled.{IsCompiled}
 use Rattle.script_places.specs.Passes.{nops_of}
-use Rattle.awk_run.specs.SpotPlaces.{IsOfSpot}
-use Rattle.awk_run.proofs.Reading.{stands_at_place}
+use Rattle.run_modules.specs.SpotPlaces.{IsOfSpot}
+use Rattle.run_modules.proofs.StandingPlaces.{stands_at_place}
 use Rattle.awk_run.proofs.Sound.{same_script, same_tokens}
-use Rattle.awk_run.proofs.SpotLines.{line_is_spots}
+use Rattle.run_modules.proofs.SpotLines.{line_is_spots}
 
 -- the spot that a place has
 spot_at : (place : Spot → Instructions) (found : Option Spot) (code : Instructions) → option_map place found ≡ Some code

@@ -5,7 +5,7 @@ use Rattle.world_core.specs.WorldState.{Action}
 use Rattle.wasm_model.specs.declared.ends.MachineEnd.TheVariants as machine
 use Rattle.wasm_store.specs.declared.trap.TrapKind.TheVariants.{BadHandle}
 use Rattle.sem_scripts.specs.ScriptRun.{Ended, Exhausted, FaultedBy, GoesOn}
-use Rattle.awk_run.specs.ModuleRun.{run_end}
+use Rattle.run_modules.specs.ModuleRun.{run_end}
 use Rattle.agreement.specs.Runs.ToldRuns.{Says}
 use Rattle.awk_run.specs.ScriptRuns.{told_of}
 use Rattle.run_report.specs.declared.end.RunEnd.TheVariants as run

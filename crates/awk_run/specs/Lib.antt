@@ -1,10 +1,5 @@
-pub mod ModuleRun
 pub mod ScriptRuns
 pub mod Examples
-pub mod FaultStep
 pub mod Seen
-pub mod ModuleSeen
 pub mod Counted
-pub mod SpotPlaces
-pub mod Tallied
 pub mod Executions

@@ -8,7 +8,7 @@ use Rattle.agreement.specs.Runs.ToldRuns.{DoesSo, DoesSoThere, GoesOnThere, Told
 use Rattle.run_report.specs.declared.compile_fault.CompileFault.TheVariants as compile
 use Rattle.script_compiler.specs.Compiled.{IsCompiled}
 use Rattle.script_compiler.specs.Refusals.{IsNotCompiled}
-use Rattle.awk_run.specs.ModuleRun.{HasRun, IsUntouched, run_output}
+use Rattle.run_modules.specs.ModuleRun.{HasRun, IsUntouched, run_output}
 use Rattle.run_report.specs.declared.end.Refusal.TheVariants.{Compile}
 use Rattle.run_report.specs.declared.end.RunEnd.{RunEnd}
 use Rattle.run_report.specs.declared.end.RunEnd.TheVariants as run

@@ -1,7 +1,8 @@
 //! Laws of what is counted of a run: how often the script executes its statements.
 ghost use Rattle.std.specs.Prelude.{◌≡◌, ℕ, List};
 ghost use Rattle.awk_run.specs.Counted.{IsCountedIn};
-ghost use Rattle.awk_run.specs.Executions.{Choice, ComesToEnd, Executes, ExecutesSoFar, begun_in, end_of, passed_by, script_run};
+ghost use Rattle.run_modules.specs.Executions.{Choice, ComesToEnd, Executes};
+ghost use Rattle.awk_run.specs.Executions.{ExecutesSoFar, begun_in, end_of, passed_by, script_run};
 ghost use Rattle.run_report.specs.declared.counts.RunCounts.{RunCounts};
 ghost use Rattle.sem_primitives.specs.Jobs.{JobForm};
 ghost use Rattle.sem_scripts.specs.ScriptRun.{setting_of};

@@ -1,37 +1,27 @@
 //! Compiles scripts, and runs scripts and modules in the sandbox's host.
 #![tactic(auto)]
 
-mod argument;
 mod compiled_laws;
 mod counting;
-mod end;
 mod execution_laws;
-mod module;
-mod module_sights;
-mod module_where;
-mod noted_world;
 mod script;
 mod script_where;
-mod stepping;
-mod whereabouts;
 
 pub use awk_parse::{Feature, ParseFault};
 pub use awk_resolve::{Name, ResolveFault};
 pub use awk_tokens::{LeftOut, TokenFault};
 pub use awk_values::{Bytes, Fault};
-pub use compiled_laws::{
-    compiled_scripts_are_sound, counted_places_are_of_spots, counted_places_are_passed,
-    counts_are_of_spots, lines_are_of_spots, told_places_are_at_work,
-};
+pub use compiled_laws::{compiled_scripts_are_sound, counted_places_are_of_spots};
 pub use counting::count_script;
 pub use ere_syntax::EreFault;
 pub use execution_laws::{counts_are_executions, steps_begin_executions};
 pub use host_calls::{Job, NamedText};
-pub use module::run_module;
 pub use module_decoder::DecodeFault;
-pub use module_sights::ModuleWhereabouts;
 pub use module_validator::InvalidFault;
-pub use module_where::run_module_where;
+pub use run_modules::{
+    ModuleWhereabouts, counted_places_are_passed, counts_are_of_spots, lines_are_of_spots,
+    run_module, run_module_where, told_places_are_at_work,
+};
 pub use run_report::{CallSite, PlaceCount, Refusal, RunCounts, RunEnd, Subject, Whereabouts};
 pub use script::run_script;
 pub use script_compiler::{CompileFault, compile};

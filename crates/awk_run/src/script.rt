@@ -1,10 +1,10 @@
 //! Scripts in the sandbox.
-ghost use Rattle.awk_run.specs.ModuleRun.{IsGiven};
+ghost use Rattle.run_modules.specs.ModuleRun.{IsGiven};
 ghost use Rattle.awk_run.specs.ScriptRuns.{ScriptAnswers};
 ghost use Rattle.host_tables.specs.Starts.{job_of};
 
-use crate::module::run_module;
 use host_calls::Job;
+use run_modules::run_module;
 use run_report::{Refusal, RunEnd};
 use script_compiler::{CompileFault, compile};
 use std::alloc::Global;
@@ -19,7 +19,7 @@ use world_core::World;
 /// [`RunEnd::OutOfSteps`] where the steps did not suffice, after a beginning of its output. Any other answer is how the script ends, with its output.
 /// What the script does is said of every world, where each opening, read and write finds the next of some list, and the output is what was given to the world;
 /// and over what the names hold, where the world tells it.
-#[tactic(auto, using(crate::proofs::ScriptRuns::script_answers, crate::proofs::Gave::none_given))]
+#[tactic(auto, using(crate::proofs::ScriptRuns::script_answers, run_modules::proofs::Gave::none_given))]
 pub fn run_script<W: World>(
     alloc: Global,
     script: &[u8],

@@ -8,15 +8,9 @@ is_octal c = nat_le digit_zero c && nat_le c digit_seven
 -- the byte that a backslash and this one stand for: `"` `/` `\` and the letters `a b f n r t v`
 abbrev pub letter_escape : ℕ → Option ℕ
 letter_escape c =
-    if c == quote then Some quote else
-    if c == slash then Some slash else
-    if c == backslash then Some backslash else
-    if c == lower_a then Some alert else
-    if c == lower_b then Some backspace else
-    if c == lower_f then Some form_feed else
-    if c == lower_n then Some newline else
-    if c == lower_r then Some carriage_return else
-    if c == lower_t then Some tab else
+    if c == quote then Some quote else if c == slash then Some slash else if c == backslash then Some backslash else
+    if c == lower_a then Some alert else if c == lower_b then Some backspace else if c == lower_f then Some form_feed else
+    if c == lower_n then Some newline else if c == lower_r then Some carriage_return else if c == lower_t then Some tab else
     if c == lower_v then Some vertical_tab else None
 
 -- One to three octal digits stand for the low eight bits of their number; a backslash and a newline stand for nothing; another byte keeps

@@ -12,8 +12,7 @@ InRange z = (neg_ℤ (pos largest) ≤ℤ z) × (z ≤ℤ pos largest)
 
 -- nothing, a plus or a minus
 abbrev pub IsSign : List ℕ → Bool → Type 0
-IsSign text negative =
-    ((text ≡ []) × (negative ≡ false)) ⊎ (((text ≡ plus ∷ []) × (negative ≡ false)) ⊎ ((text ≡ minus ∷ []) × (negative ≡ true)))
+IsSign text negative = ((text ≡ []) × (negative ≡ false)) ⊎ (((text ≡ plus ∷ []) × (negative ≡ false)) ⊎ ((text ≡ minus ∷ []) × (negative ≡ true)))
 
 -- nothing, or a point and digits
 abbrev pub IsFraction : List ℕ → List ℕ → Type 0

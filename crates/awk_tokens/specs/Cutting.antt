@@ -129,8 +129,7 @@ leads (t ∷ _) = is_lead t.kind
 -- rule 2; the first argument says whether a `}` stands directly before
 abbrev pub without : Bool → List Spelled → List Spelled
 without brace [] = []
-without brace (t ∷ ts) =
-    if brace && (is_semicolon t.kind && leads ts) then without (is_close_brace t.kind) ts
+without brace (t ∷ ts) = if brace && (is_semicolon t.kind && leads ts) then without (is_close_brace t.kind) ts
     else t ∷ without (is_close_brace t.kind) ts
 
 -- Rule 3, over what rule 2 leaves. A `;` is put before each `}` whose former token is not `{`, `}` or `;`, and at the end if
@@ -154,8 +153,7 @@ is_unended (Some former) = not (is_close_brace former.kind || is_semicolon forme
 -- rule 3; the first argument is the former token
 abbrev pub with_ends : Option Spelled → List Spelled → List Spelled
 with_ends former [] = if is_unended former then inserted former ∷ [] else []
-with_ends former (t ∷ ts) =
-    if is_close_brace t.kind && is_open_end former then inserted former ∷ (t ∷ with_ends (Some t) ts)
+with_ends former (t ∷ ts) = if is_close_brace t.kind && is_open_end former then inserted former ∷ (t ∷ with_ends (Some t) ts)
     else t ∷ with_ends (Some t) ts
 
 -- rules 2 and 3
@@ -199,10 +197,7 @@ newlines bytes = count_by (λ c. c == newline) bytes
 
 -- why there is no piece that begins with this byte
 abbrev pub refusal : Bool → ℕ → ℕ → TokenFault
-refusal division line c =
-    if c == quote then OpenString line
-    else if (c == slash) && not division then OpenEre line
-    else BadByte line
+refusal division line c = if c == quote then OpenString line else if (c == slash) && not division then OpenEre line else BadByte line
 
 -- ---- the tokens of a script
 

@@ -49,7 +49,5 @@ begins_digit (c ∷ _) = is_digit c
 
 abbrev pub is_number : List ℕ → Bool
 is_number [] = false
-is_number (c ∷ cs) =
-    if is_digit c then is_fraction (after_digits cs)
-    else if c == point then begins_digit cs && is_exponent (after_digits cs)
+is_number (c ∷ cs) = if is_digit c then is_fraction (after_digits cs) else if c == point then begins_digit cs && is_exponent (after_digits cs)
     else false

@@ -28,53 +28,17 @@ on_line c = not (c == newline)
 abbrev pub closes : Bool → ℕ → Bool → List ℕ → Bool
 closes newlines q escaped [] = false
 closes newlines q true (c ∷ cs) = if (c == newline) && not newlines then false else closes newlines q false cs
-closes newlines q false (c ∷ cs) =
-    if c == q then length cs == 0
-    else if c == newline then false
-    else closes newlines q (c == backslash) cs
+closes newlines q false (c ∷ cs) = if c == q then length cs == 0 else if c == newline then false else closes newlines q (c == backslash) cs
 
 unfoldable pub punctuators : List (List ℕ × AnyPunctuator)
 punctuators =
-    (codes "{", OpenBrace)
-    ∷ (codes "}", CloseBrace)
-    ∷ (codes "(", OpenParen)
-    ∷ (codes ")", CloseParen)
-    ∷ (codes "[", OpenBracket)
-    ∷ (codes "]", CloseBracket)
-    ∷ (codes ";", Semicolon)
-    ∷ (codes ",", Comma)
-    ∷ (codes "+", Plus)
-    ∷ (codes "-", Minus)
-    ∷ (codes "*", Star)
-    ∷ (codes "/", Slash)
-    ∷ (codes "%", Percent)
-    ∷ (codes "^", Caret)
-    ∷ (codes "!", Bang)
-    ∷ (codes ">", Greater)
-    ∷ (codes "<", Less)
-    ∷ (codes "|", Pipe)
-    ∷ (codes "?", Question)
-    ∷ (codes ":", Colon)
-    ∷ (codes "~", Tilde)
-    ∷ (codes "$", Dollar)
-    ∷ (codes "=", Assign)
-    ∷ (codes "+=", PlusAssign)
-    ∷ (codes "-=", MinusAssign)
-    ∷ (codes "*=", StarAssign)
-    ∷ (codes "/=", SlashAssign)
-    ∷ (codes "%=", PercentAssign)
-    ∷ (codes "^=", CaretAssign)
-    ∷ (codes "==", Equal)
-    ∷ (codes "<=", LessEqual)
-    ∷ (codes ">=", GreaterEqual)
-    ∷ (codes "!=", NotEqual)
-    ∷ (codes "!~", NotTilde)
-    ∷ (codes "++", Increment)
-    ∷ (codes "--", Decrement)
-    ∷ (codes "&&", And)
-    ∷ (codes "||", Or)
-    ∷ (codes ">>", Append)
-    ∷ []
+    (codes "{", OpenBrace) ∷ (codes "}", CloseBrace) ∷ (codes "(", OpenParen) ∷ (codes ")", CloseParen) ∷ (codes "[", OpenBracket)
+    ∷ (codes "]", CloseBracket) ∷ (codes ";", Semicolon) ∷ (codes ",", Comma) ∷ (codes "+", Plus) ∷ (codes "-", Minus) ∷ (codes "*", Star)
+    ∷ (codes "/", Slash) ∷ (codes "%", Percent) ∷ (codes "^", Caret) ∷ (codes "!", Bang) ∷ (codes ">", Greater) ∷ (codes "<", Less)
+    ∷ (codes "|", Pipe) ∷ (codes "?", Question) ∷ (codes ":", Colon) ∷ (codes "~", Tilde) ∷ (codes "$", Dollar) ∷ (codes "=", Assign)
+    ∷ (codes "+=", PlusAssign) ∷ (codes "-=", MinusAssign) ∷ (codes "*=", StarAssign) ∷ (codes "/=", SlashAssign) ∷ (codes "%=", PercentAssign)
+    ∷ (codes "^=", CaretAssign) ∷ (codes "==", Equal) ∷ (codes "<=", LessEqual) ∷ (codes ">=", GreaterEqual) ∷ (codes "!=", NotEqual)
+    ∷ (codes "!~", NotTilde) ∷ (codes "++", Increment) ∷ (codes "--", Decrement) ∷ (codes "&&", And) ∷ (codes "||", Or) ∷ (codes ">>", Append) ∷ []
 
 -- the kind of a word: a reserved one, or a name
 abbrev pub word_kind : Option ReservedWord → TokenKind

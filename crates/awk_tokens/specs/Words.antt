@@ -17,58 +17,22 @@ entry text (e ∷ es) = if pointwise ◌==◌ text e.0 then Some e.1 else entry 
 
 unfoldable pub keywords : List (List ℕ × AnyKeyword)
 keywords =
-    (codes "BEGIN", Begin)
-    ∷ (codes "END", End)
-    ∷ (codes "function", Function)
-    ∷ (codes "if", If)
-    ∷ (codes "else", Else)
-    ∷ (codes "while", While)
-    ∷ (codes "for", For)
-    ∷ (codes "do", Do)
-    ∷ (codes "break", Break)
-    ∷ (codes "continue", Continue)
-    ∷ (codes "next", Next)
-    ∷ (codes "nextfile", NextFile)
-    ∷ (codes "exit", Exit)
-    ∷ (codes "return", Return)
-    ∷ (codes "delete", Delete)
-    ∷ (codes "in", In)
-    ∷ (codes "getline", Getline)
-    ∷ (codes "print", Print)
-    ∷ (codes "printf", Printf)
-    ∷ []
+    (codes "BEGIN", Begin) ∷ (codes "END", End) ∷ (codes "function", Function) ∷ (codes "if", If) ∷ (codes "else", Else) ∷ (codes "while", While)
+    ∷ (codes "for", For) ∷ (codes "do", Do) ∷ (codes "break", Break) ∷ (codes "continue", Continue) ∷ (codes "next", Next)
+    ∷ (codes "nextfile", NextFile) ∷ (codes "exit", Exit) ∷ (codes "return", Return) ∷ (codes "delete", Delete) ∷ (codes "in", In)
+    ∷ (codes "getline", Getline) ∷ (codes "print", Print) ∷ (codes "printf", Printf) ∷ []
 
 unfoldable pub builtins : List (List ℕ × AnyBuiltin)
 builtins =
-    (codes "length", Length)
-    ∷ (codes "substr", Substr)
-    ∷ (codes "index", Index)
-    ∷ (codes "split", Split)
-    ∷ (codes "sub", Sub)
-    ∷ (codes "gsub", Gsub)
-    ∷ (codes "match", Match)
-    ∷ (codes "sprintf", Sprintf)
-    ∷ (codes "tolower", ToLower)
-    ∷ (codes "toupper", ToUpper)
-    ∷ (codes "int", Int)
-    ∷ (codes "close", Close)
-    ∷ (codes "fflush", Fflush)
-    ∷ []
+    (codes "length", Length) ∷ (codes "substr", Substr) ∷ (codes "index", Index) ∷ (codes "split", Split) ∷ (codes "sub", Sub) ∷ (codes "gsub", Gsub)
+    ∷ (codes "match", Match) ∷ (codes "sprintf", Sprintf) ∷ (codes "tolower", ToLower) ∷ (codes "toupper", ToUpper) ∷ (codes "int", Int)
+    ∷ (codes "close", Close) ∷ (codes "fflush", Fflush) ∷ []
 
 -- what awk, or a common extension, has and this language leaves out
 unfoldable pub left_out_words : List (List ℕ × AnyLeftOut)
 left_out_words =
-    (codes "atan2", Atan2)
-    ∷ (codes "cos", Cos)
-    ∷ (codes "sin", Sin)
-    ∷ (codes "exp", Exp)
-    ∷ (codes "log", Log)
-    ∷ (codes "sqrt", Sqrt)
-    ∷ (codes "rand", Rand)
-    ∷ (codes "srand", Srand)
-    ∷ (codes "system", System)
-    ∷ (codes "func", Func)
-    ∷ []
+    (codes "atan2", Atan2) ∷ (codes "cos", Cos) ∷ (codes "sin", Sin) ∷ (codes "exp", Exp) ∷ (codes "log", Log) ∷ (codes "sqrt", Sqrt)
+    ∷ (codes "rand", Rand) ∷ (codes "srand", Srand) ∷ (codes "system", System) ∷ (codes "func", Func) ∷ []
 
 abbrev pub left_out_or : Option AnyLeftOut → Option ReservedWord
 left_out_or None = None

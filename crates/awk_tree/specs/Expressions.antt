@@ -8,36 +8,12 @@ use Rattle.awk_tokens.specs.declared.reserved_words.Builtin.TheVariants as funct
 use Rattle.awk_grammar.specs.Trees.{Join, Add, Other, Tree, Leaf, Length, Var, Index, Field, Group, Call, Apply, Unary, Pre, Post, Bin, Has, HasList, Cond, Get, GetInto, GetFrom, GetIntoFrom, Trees, NoTree, Then, prefix_token}
 use Rattle.awk_tree.specs.Ends.{IsVariable, MayJoin, MayCompare}
 
--- From the loosest to the tightest. A TailExpr ends in an assignment, which so may stand without parentheses at the end of `||` and `&&`.
+-- From the loosest to the tightest. A TailExpr ends in an assignment, which so may stand without parentheses at the end of `||` and `&&`. A CondExpr is
+-- one of `? :`, an InExpr of `in`, a MatchExpr of `~`, a ConcatExpr of operands side by side, a PostfixExpr of `++` and `--`, and getline is a PrimaryExpr.
+-- A SimpleExpr may stand after `getline <`, and a FieldOperand after `$`.
 pub data Nonterminal : Type 0 where
-  Expr : Nonterminal
-  TailExpr : Nonterminal
-  AssignExpr : Nonterminal
-  -- `? :`
-  CondExpr : Nonterminal
-  OrExpr : Nonterminal
-  AndExpr : Nonterminal
-  -- `in`
-  InExpr : Nonterminal
-  -- `~`
-  MatchExpr : Nonterminal
-  CompareExpr : Nonterminal
-  -- operands side by side
-  ConcatExpr : Nonterminal
-  AddExpr : Nonterminal
-  MulExpr : Nonterminal
-  UnaryExpr : Nonterminal
-  PowerExpr : Nonterminal
-  Exponent : Nonterminal
-  -- `++` and `--`
-  PostfixExpr : Nonterminal
-  -- getline
-  PrimaryExpr : Nonterminal
-  -- what may stand after `getline <`
-  SimpleExpr : Nonterminal
-  LValue : Nonterminal
-  -- what may stand after `$`
-  FieldOperand : Nonterminal
+  Expr TailExpr AssignExpr CondExpr OrExpr AndExpr InExpr MatchExpr CompareExpr ConcatExpr AddExpr MulExpr UnaryExpr PowerExpr Exponent : Nonterminal
+  PostfixExpr PrimaryExpr SimpleExpr LValue FieldOperand : Nonterminal
 
 -- the arguments that a function of the language takes
 pub data Takes : Builtin → Trees → Type 0 where

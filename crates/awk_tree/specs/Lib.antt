@@ -5,3 +5,4 @@ pub mod Scripts
 pub mod Lines
 pub mod Parts
 pub mod LineExamples
+pub mod Lexemes

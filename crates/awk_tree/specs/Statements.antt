@@ -72,8 +72,7 @@ mutual
     if_then : {c : Tree} {s : Stmt} {ts us : List Token} →
         Derives true Expr c ts → StmtOf s us → StmtOf (If c s) (Key IfWord ∷ (Open ∷ (ts ++ (Close ∷ us))))
     -- Stmt := 'if' '(' Expr ')' Stmt 'else' Stmt
-    if_else : {c : Tree} {s t : Stmt} {ts us vs : List Token} →
-        Derives true Expr c ts → StmtOf s us → (EndsInIf s → ⊥) → StmtOf t vs →
+    if_else : {c : Tree} {s t : Stmt} {ts us vs : List Token} → Derives true Expr c ts → StmtOf s us → (EndsInIf s → ⊥) → StmtOf t vs →
         StmtOf (IfElse c s t) (Key IfWord ∷ (Open ∷ (ts ++ (Close ∷ (us ++ (Key ElseWord ∷ vs))))))
     -- Stmt := 'while' '(' Expr ')' Stmt
     while : {c : Tree} {s : Stmt} {ts us : List Token} →

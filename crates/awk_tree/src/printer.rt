@@ -2,7 +2,7 @@
 
 ghost use Rattle.std.specs.Prelude.{◌≡◌, ◌++◌, IfOk, OnOk};
 ghost use Rattle.awk_grammar.specs.Item.{print_names, print_params, print_pattern, print_item, print_script};
-ghost use Rattle.awk_grammar.specs.Lexeme.{lexemes};
+ghost use Rattle.awk_tree.specs.Lexemes.{lexemes};
 ghost use Rattle.awk_grammar.specs.ViewStmt.{view_pattern, view_names, view_item, view_items, view_script};
 
 use crate::printer_stmt::push_block;

@@ -6,7 +6,8 @@ ghost use Rattle.awk_grammar.specs.Tree.{print};
 ghost use Rattle.awk_grammar.specs.Stmt.{print_args, print_target, print_plain, print_maybe, print_maybe_plain, printing_token, print_stmt, print_stmts};
 ghost use Rattle.awk_grammar.specs.Trees.{jump_token, leaving_token};
 ghost use Rattle.awk_grammar.specs.Item.{print_body};
-ghost use Rattle.awk_grammar.specs.Lexeme.{keyword_lexeme, lexemes};
+ghost use Rattle.awk_grammar.specs.LexemeCases.{keyword_lexeme};
+ghost use Rattle.awk_tree.specs.Lexemes.{lexemes};
 ghost use Rattle.awk_grammar.specs.View.{view};
 ghost use Rattle.awk_grammar.specs.ViewStmt.{view_word, view_args, view_target, view_simple, view_maybe, view_maybe_simple, view_jump, view_leaving, view_stmt, view_stmts};
 

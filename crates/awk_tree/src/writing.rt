@@ -4,7 +4,8 @@ ghost use Rattle.std.specs.Prelude.{◌≡◌, [], ◌∷◌, ◌++◌, ◌<◌,
 ghost use Rattle.awk_grammar.specs.Token.{Infix, Assign, Compare, Less, StepMark, Name, GetlineWord, InWord, Open, Close};
 ghost use Rattle.awk_grammar.specs.Tree.{op_tokens, print, print_list, print_more};
 ghost use Rattle.awk_grammar.specs.Trees.{prefix_token};
-ghost use Rattle.awk_grammar.specs.Lexeme.{lexeme, lexemes, keyword_lexeme, mark_lexeme};
+ghost use Rattle.awk_grammar.specs.LexemeCases.{keyword_lexeme, mark_lexeme};
+ghost use Rattle.awk_tree.specs.Lexemes.{lexeme, lexemes};
 ghost use Rattle.awk_grammar.specs.View.{view, views, view_step, view_unary, view_binary, view_assign};
 
 use awk_grammar::{AssignOp, BinaryOp, Builtin, Expr, Printed, StepOp, UnaryOp};

@@ -1,4 +1,5 @@
 pub mod Faults
+pub mod FaultNames
 pub mod Operators
 pub mod Values
 pub mod Comparison

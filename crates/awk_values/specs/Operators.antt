@@ -41,8 +41,7 @@ remainder a b = unless_zero b (Ok (int_rem a b))
 
 -- one over a power of a: it is whole for 1 and -1 only
 abbrev pub inverse_power : ℤ → ℕ → Outcome
-inverse_power a e =
-    unless_zero a (if unsigned_abs a == 1 then Ok (int_pow a e) else Err Inexact)
+inverse_power a e = unless_zero a (if unsigned_abs a == 1 then Ok (int_pow a e) else Err Inexact)
 
 abbrev pub power : ℤ → ℤ → Outcome
 power a (pos e) = checked (int_pow a e)

@@ -1,6 +1,7 @@
 //! Why a run stops.
 ghost use Rattle.std.specs.Prelude.{◌≡◌};
-ghost use Rattle.awk_values.specs.Faults.{fault_name, fault_number};
+ghost use Rattle.awk_values.specs.Faults.{fault_number};
+ghost use Rattle.awk_values.specs.FaultNames.{fault_name};
 
 use std::alloc::AllocError;
 use std::{error, fmt};

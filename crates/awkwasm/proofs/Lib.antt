@@ -1,4 +1,1 @@
-pub mod Printing
-pub mod Equals
 pub mod Words
-pub mod Pairs

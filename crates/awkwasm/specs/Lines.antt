@@ -9,8 +9,8 @@ use Rattle.command_line.specs.Request.{Asks}
 use Rattle.command_line.specs.Spelling.{spelled_line}
 use Rattle.command_line.specs.declared.Request.{Request}
 use Rattle.run_report.specs.declared.report.FileFault.TheVariants.{CannotWrite}
-use Rattle.run_tasks.specs.declared.task_error.TaskError.{TaskError}
-use Rattle.run_tasks.specs.declared.task_error.TaskError.TheVariants.{Arguments, File, NoMemory, ScriptFile, TextApart}
+use Rattle.task_pages.specs.declared.task_error.TaskError.{TaskError}
+use Rattle.task_pages.specs.declared.task_error.TaskError.TheVariants.{Arguments, File, NoMemory, ScriptFile, TextApart}
 use Rattle.awkwasm.specs.Done.{Exits}
 
 -- clap's rules find nothing wrong with the words, nor help or the version among them

@@ -1,15 +1,17 @@
-//! What `count` and `run --stats` print.
-ghost use Rattle.std.specs.Prelude.{◌≡◌, ◌⊎◌, ℕ, [], List, true, IfErr, IfOk, Ok};
-ghost use Rattle.awkwasm.specs.Done.{Does, Exits, IsUnbegun, IsUnread};
-ghost use Rattle.awkwasm.specs.Sights.{AreLines, ScriptCounted, Tells, is_uncounted};
+//! Runs that are counted: those of `count` and of `run --stats`.
+ghost use Rattle.std.specs.Prelude.{◌⊎◌, ℕ, List, IfErr, IfOk, Ok};
+ghost use Rattle.awkwasm.specs.Done.{Does, Exits};
+ghost use Rattle.awkwasm.specs.Sights.{ScriptCounted};
 ghost use Rattle.command_line.specs.declared.Request.TheVariants.{Count, Run};
 ghost use Rattle.run_report.specs.CountTexts.{count_text, stats_text};
+ghost use Rattle.task_pages.specs.Outcomes.{IsUnbegun, IsUnread};
+ghost use Rattle.task_pages.specs.ToldLines.{Tells, is_uncounted};
 
-use crate::tasks::{Lines, SCRIPT_LIMIT, file_of, surroundings, tell_lines};
+use crate::tasks::surroundings;
 use command_line::Task;
-use run_report::{RunCounts, RunEnd, count_text, stats_text};
-use run_tasks::{TaskError, script_counted};
-use std::alloc::{AllocError, Global};
+use run_report::{RunCounts, RunEnd};
+use run_tasks::{SCRIPT_LIMIT, script_counted};
+use task_pages::{Lines, TaskError, file_of, listing_of, stats_of, tell_lines};
 
 /// Runs a script of these bytes as a task says, over real files, behind the fence of the task, and counts.
 fn run_bytes(
@@ -22,36 +24,6 @@ fn run_bytes(
 {
     let around = surroundings(rt)?;
     Ok(script_counted(rt.alloc(), task, script, around))
-}
-
-/// The lines of a run of which nothing is counted: none where its script is refused, else memory ran out.
-fn uncounted(alloc: Global, end: &RunEnd) -> Lines
-    ensures { IfOk result (λ made. (made.items ≡ []) × (is_uncounted end.now ≡ true)) }
-{
-    match end {
-        RunEnd::Refused(_) => Ok(Vec::new(alloc)),
-        _ => Err(AllocError),
-    }
-}
-
-/// The listing of a script that was run so.
-fn listing_of(alloc: Global, script: &[u8], end: &RunEnd, counts: &Option<RunCounts>) -> Lines
-    ensures { AreLines (is_uncounted end.now) (count_text script.now) counts.now result }
-{
-    match counts {
-        Some(counts) => count_text(alloc, script, counts),
-        None => uncounted(alloc, end),
-    }
-}
-
-/// What is told of what a run took.
-fn stats_of(alloc: Global, end: &RunEnd, counts: &Option<RunCounts>) -> Lines
-    ensures { AreLines (is_uncounted end.now) stats_text counts.now result }
-{
-    match counts {
-        Some(counts) => stats_text(alloc, counts),
-        None => uncounted(alloc, end),
-    }
 }
 
 /// Runs the script in a task's file, and makes its listing.

@@ -6,33 +6,25 @@ ghost use Rattle.clap.specs.Words.{Text, kind_of, takes};
 ghost use Rattle.command_line.specs.Line.{line_app, status_of_kind};
 ghost use Rattle.command_line.specs.Spelling.{spelled_line};
 ghost use Rattle.command_line.specs.Request.{texts};
-ghost use Rattle.run_tasks.specs.declared.task_error.TaskError.TheVariants.{NoMemory};
-ghost use Rattle.awkwasm.specs.Done.{IsUnwritten};
+ghost use Rattle.task_pages.specs.declared.task_error.TaskError.TheVariants.{NoMemory};
+ghost use Rattle.task_pages.specs.Outcomes.{IsUnwritten};
 ghost use Rattle.awkwasm.specs.Lines.{Carries, IsStatusOf, IsToldApart, IsToldFor, IsWordless, Refuses};
 
 mod checking;
-mod compiling;
 mod counting;
-mod environment;
-mod explanations;
-mod imports;
 mod module_sight;
-mod output;
-mod standard;
 mod tasks;
 
-use crate::output::{tell, write_text};
-use crate::standard::take_closed;
-use crate::tasks::{carry_out, tell_task};
+use crate::tasks::carry_out;
 use clap::Error;
 use command_line::{
     exit_status, is_no_memory, is_script_file, is_text_apart, request_of, spelled_line,
 };
 use run_report::shown;
-use run_tasks::TaskError;
 use std::alloc::{AllocError, Global};
 use std::io;
 use std::process::ExitCode;
+use task_pages::{TaskError, take_closed, tell, tell_task, write_text};
 
 /// The arguments, the program's name first.
 fn arguments(rt: &HostRuntime) -> Result<Vec<String>, TaskError>

@@ -1,17 +1,20 @@
 //! A module's file that is run, and where the module was.
 ghost use Rattle.std.specs.Prelude.{◌⊎◌, ℕ, List, not, IfErr, IfOk, Ok};
-ghost use Rattle.awkwasm.specs.Done.{Does, Exits, IsUnbegun, IsUnread};
-ghost use Rattle.awkwasm.specs.Sights.{AreLines, InOrder, Tells};
+ghost use Rattle.awkwasm.specs.Done.{Does, Exits};
+ghost use Rattle.awkwasm.specs.Sights.{InOrder};
 ghost use Rattle.command_line.specs.declared.Request.TheVariants.{Exec};
 ghost use Rattle.run_report.specs.WhereTexts.{is_told};
 ghost use Rattle.run_tasks.specs.ModuleWhereTexts.{module_where_text};
 ghost use Rattle.run_tasks.specs.Runs.{RunsModule, SeesModule};
+ghost use Rattle.task_pages.specs.Outcomes.{IsUnbegun, IsUnread};
+ghost use Rattle.task_pages.specs.ToldLines.{AreLines, Tells};
 
-use crate::tasks::{Lines, MODULE_LIMIT, file_of, surroundings, tell_lines};
+use crate::tasks::surroundings;
 use command_line::Task;
 use run_report::RunEnd;
-use run_tasks::{ModuleWhereabouts, TaskError, is_told, module_seen, module_where_text};
+use run_tasks::{ModuleWhereabouts, module_seen, module_where_text};
 use std::alloc::{AllocError, Global};
+use task_pages::{Lines, MODULE_LIMIT, TaskError, file_of, is_told, tell_lines};
 
 /// How a run ended, and where the module was.
 type Seen = (RunEnd, Option<ModuleWhereabouts>);

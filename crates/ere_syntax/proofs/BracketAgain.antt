@@ -1,7 +1,8 @@
 -- A bracket that is spelled is read.
 use Rattle.std.proofs.Common.{◌≡◌, ℕ, zero, suc, ◌≤◌, Bool, true, false, List, [], ◌∷◌, ◌++◌, length, Option, Some, refl, ap, ◌∙◌, append_assoc, arith, length-append}
 use Rattle.ere_syntax.specs.Reading.{◌>>=◌}
-use Rattle.ere_syntax.specs.Bracket.{starts, Escape, Octal, Letter, spell_escape, AreOctals, IsEscape, octals_at, escape_at, One, Raw, Escaped, spell_one, IsOne, one_at, closed_name, class_at, Member, Single, Range, Named, spell_member, front, dash_at, IsMember, spell_members, AreMembers, members_by, members_at, Bracket, spell_bracket, IsBracket, bracket_at}
+use Rattle.ere_syntax.specs.Bracket.{starts, Escape, Octal, Letter, spell_escape, AreOctals, IsEscape, One, Raw, Escaped, spell_one, IsOne, closed_name, Member, Single, Range, Named, spell_member, front, dash_at, IsMember, spell_members, AreMembers, Bracket, spell_bracket, IsBracket}
+use Rattle.ere_syntax.specs.Readers.{octals_at, escape_at, one_at, class_at, members_by, members_at, bracket_at}
 use Rattle.ere_syntax.specs.declared.class.Class.{Class}
 use Rattle.ere_syntax.specs.declared.class.Class.TheVariants.{Alnum, Alpha, Blank, Cntrl, Digit, Graph, Lower, Print, Punct, Space, Upper, Xdigit}
 

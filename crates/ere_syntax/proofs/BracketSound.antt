@@ -2,7 +2,8 @@
 use Rattle.std.proofs.Common.{◌≡◌, ℕ, zero, suc, Bool, true, false, cond, ◌&&◌, List, [], ◌∷◌, ◌++◌, length, Option, Some, None, ◌⊎◌, inl, inr, refl, sym, ap, subst, ◌∙◌, append_assoc, nat_eq, nat_le}
 use Rattle.std.proofs.lemmas.Bool.{eqb-true}
 use Rattle.ere_syntax.specs.Reading.{◌>>=◌}
-use Rattle.ere_syntax.specs.Bracket.{not, starts, is_octal, Escape, Octal, Letter, spell_escape, AreOctals, IsEscape, octals_at, escape_at, One, Raw, Escaped, spell_one, IsOne, value, one_at, closed_name, strip, class_or, or_class, class_at, Member, Single, Range, Named, spell_member, names, front, dash_at, names_front, IsMember, spell_members, AreMembers, single_or, named_at, member_at, behind, members_by, members_at, Bracket, spell_bracket, IsBracket, bracket_by, bracket_at}
+use Rattle.ere_syntax.specs.Bracket.{not, starts, is_octal, Escape, Octal, Letter, spell_escape, AreOctals, IsEscape, One, Raw, Escaped, spell_one, IsOne, value, closed_name, Member, Single, Range, Named, spell_member, names, front, dash_at, names_front, IsMember, spell_members, AreMembers, Bracket, spell_bracket, IsBracket}
+use Rattle.ere_syntax.specs.Readers.{octals_at, escape_at, one_at, strip, class_or, or_class, class_at, single_or, named_at, member_at, behind, members_by, members_at, bracket_by, bracket_at}
 use Rattle.ere_syntax.proofs.Sound.{bind_some, IsThat, that_is, allow_some}
 use Rattle.ere_syntax.specs.declared.bracket.Front.{Front}
 use Rattle.ere_syntax.specs.declared.bracket.Front.TheVariants.{Closes, Names, Begins, Wrong}

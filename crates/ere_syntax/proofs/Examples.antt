@@ -2,8 +2,9 @@
 use Rattle.std.proofs.Common.{◌≡◌, ℕ, Some, None, [], ◌∷◌, codes, refl, lit≤}
 use Rattle.std.specs.Prelude.{◌==◌, true}
 use Rattle.ere_syntax.specs.Bytes.{tab, newline, carriage_return, space, exclamation, dollar, open_paren, close_paren, star, plus, comma, dash, dot, slash, digit_zero, digit_seven, digit_nine, colon, equals, query, at_sign, upper_a, upper_f, upper_z, open_bracket, backslash, close_bracket, hat, backquote, lower_a, lower_b, lower_f, lower_n, lower_r, lower_t, lower_v, lower_z, open_brace, bar, close_brace, tilde}
-use Rattle.ere_syntax.specs.Bracket.{bracket_at}
-use Rattle.ere_syntax.specs.Scan.{IsEreOf, ere_of, sign_of, table}
+use Rattle.ere_syntax.specs.Readers.{bracket_at, sign_of}
+use Rattle.ere_syntax.specs.Scan.{IsEreOf, table}
+use Rattle.ere_syntax.specs.EreOf.{ere_of}
 use Rattle.ere_syntax.specs.Tree.{Tree, Bytes, Empty, Set, Start, End, Group, Repeat, Concat, Or}
 use Rattle.ere_syntax.specs.Matches.{Matches}
 use Rattle.ere_syntax.proofs.Scans.{no_ere, text_sound}

@@ -3,8 +3,11 @@ use Rattle.std.proofs.Common.{◌≡◌, ℕ, zero, suc, ◌+◌, ◌-◌, ◌*�
 use Rattle.std.proofs.lemmas.Bool.{eqb-true, ne_eqb, lt-leb, cases_lt}
 use Rattle.ere_syntax.specs.Tree.{Bytes, Token, Atom, Close, Times}
 use Rattle.ere_syntax.specs.Reading.{◌>>=◌}
-use Rattle.ere_syntax.specs.Bracket.{starts, behind, Escape, byte_and, escape_at, escape_value, Bracket, bracket_at}
-use Rattle.ere_syntax.specs.Scan.{table, in_bracket, is_digit, digits_at, is_empty, Interval, Exact, Upto, upto_by, interval_at, number_after, low_of, high_of, fits, sign_of, Spelling, Escapes, Bracketed, Counted, counted_or, spelling_by, token_of}
+use Rattle.ere_syntax.specs.Bracket.{starts, Escape, escape_value, Bracket}
+use Rattle.ere_syntax.specs.Readers.{behind, byte_and, escape_at, bracket_at, digits_at, upto_by, interval_at, sign_of}
+use Rattle.ere_syntax.specs.Scan.{table, in_bracket, Spelling, Escapes, Bracketed, Counted, token_of}
+use Rattle.ere_syntax.specs.EreOf.{counted_or, spelling_by}
+use Rattle.ere_syntax.specs.Signs.{is_digit, is_empty, Interval, Exact, Upto, number_after, low_of, high_of, fits}
 use Rattle.ere_syntax.specs.Reads.{set_and}
 use Rattle.ere_syntax.specs.Counts.{saturated, begins_number, Counted as CountsRead, counts_and, closing, upto, counted_low, counted, times_and, fitting}
 use Rattle.ere_syntax.specs.Lexing.{byte_token, token_and, read_token, counted_token, lexed_by, lexed}

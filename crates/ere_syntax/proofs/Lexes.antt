@@ -4,7 +4,8 @@ use Rattle.std.proofs.lemmas.Bool.{cases_eq}
 use Rattle.std.proofs.lemmas.Grind.{get_or-set_at}
 use Rattle.std.proofs.lemmas.List.{get_or-set_other}
 use Rattle.ere_syntax.specs.Tree.{Bytes}
-use Rattle.ere_syntax.specs.Bracket.{closed_name, strip}
+use Rattle.ere_syntax.specs.Bracket.{closed_name}
+use Rattle.ere_syntax.specs.Readers.{strip}
 use Rattle.ere_syntax.specs.Reads.{class_and, class_in, in_item}
 use Rattle.ere_syntax.specs.declared.bracket.Item.{Item}
 use Rattle.ere_syntax.specs.declared.class.Class.{Class}

@@ -3,7 +3,8 @@ use Rattle.std.proofs.Common.{◌≡◌, ℕ, zero, suc, ◌+◌, ◌<◌, ◌�
 use Rattle.ere_syntax.specs.Tree.{Bytes}
 use Rattle.ere_syntax.specs.Bytes.{colon}
 use Rattle.ere_syntax.specs.Reading.{◌>>=◌}
-use Rattle.ere_syntax.specs.Bracket.{not, names_front, One, one_at, value, byte_and, dash_at, Member, Single, Range, Named, spell_member, front, range_to, single_or, member_at, behind, members_by, members_at, starts, class_at, Bracket, bracket_by}
+use Rattle.ere_syntax.specs.Bracket.{not, names_front, One, value, dash_at, Member, Single, Range, Named, spell_member, front, starts, Bracket}
+use Rattle.ere_syntax.specs.Readers.{one_at, byte_and, range_to, single_or, member_at, behind, members_by, members_at, class_at, bracket_by}
 use Rattle.ere_syntax.specs.Scan.{table, table_by, in_member, in_members, in_bracket}
 use Rattle.ere_syntax.specs.Reads.{item_of, in_item, item_and, set_and, at_least, upper_by, item_or, named_item, read_named, class_read, begun, closed_by, read_members, read_bracket}
 use Rattle.ere_syntax.specs.declared.class.Class.{Class}

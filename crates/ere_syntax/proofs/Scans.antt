@@ -3,8 +3,11 @@ use Rattle.std.proofs.Common.{◌≡◌, ℕ, zero, suc, ◌<◌, ◌≤◌, Boo
 use Rattle.std.proofs.lemmas.Bool.{eqb-true}
 use Rattle.ere_syntax.specs.Tree.{Tree}
 use Rattle.ere_syntax.specs.Reading.{◌>>=◌, tree_of}
-use Rattle.ere_syntax.specs.Bracket.{starts, behind, spell_escape, escape_at, spell_bracket, bracket_at}
-use Rattle.ere_syntax.specs.Scan.{is_digit, digits_at, Interval, Exact, Upto, spell_interval, AreDigits, is_empty, IsInterval, upto_by, interval_at, fits, code, or_sign, sign_of, Spelling, Ordinary, Signed, Escapes, Bracketed, Counted, spell, IsOrdinary, IsSign, IsSpelling, opened, spell_all, AreSpellings, tokens_of, IsEreOf, counted_or, spelling_by, spellings_at, spellings_of, ere_of}
+use Rattle.ere_syntax.specs.Bracket.{starts, spell_escape, spell_bracket}
+use Rattle.ere_syntax.specs.Readers.{behind, escape_at, bracket_at, digits_at, upto_by, interval_at, or_sign, sign_of}
+use Rattle.ere_syntax.specs.Scan.{Spelling, Ordinary, Signed, Escapes, Bracketed, Counted, spell, IsOrdinary, IsSign, IsSpelling, opened, spell_all, AreSpellings, tokens_of, IsEreOf}
+use Rattle.ere_syntax.specs.EreOf.{counted_or, spelling_by, spellings_at, spellings_of, ere_of}
+use Rattle.ere_syntax.specs.Signs.{is_digit, Interval, Exact, Upto, spell_interval, AreDigits, is_empty, IsInterval, fits, code}
 use Rattle.ere_syntax.proofs.Sound.{bind_some, IsThat, that_is, allow_some, tree_sound}
 use Rattle.ere_syntax.proofs.Complete.{ere_again}
 use Rattle.ere_syntax.proofs.BracketSound.{Takes, chosen, refuse_some, escape_sound, bracket_sound}

@@ -4,7 +4,9 @@ use Rattle.std.proofs.lemmas.Bool.{ne_eqb}
 use Rattle.ere_syntax.specs.Tree.{Token, Atom, Begin, Stop, Open, Close, Bar, Times, Tree, Set, Start, End, Group}
 use Rattle.ere_syntax.specs.Reading.{◌>>=◌, Frame, fresh, put, bar, finish, repeated, read, tree_of, check, has_some, takes_times, is_some, IsNeat, AreNeat}
 use Rattle.ere_syntax.specs.Bracket.{not}
-use Rattle.ere_syntax.specs.Scan.{sign_of, Spelling, Ordinary, Signed, Escapes, Bracketed, Counted, opened, spell, token_of, tokens_of, spelling_by, spellings_at, ere_of}
+use Rattle.ere_syntax.specs.Scan.{Spelling, Ordinary, Signed, Escapes, Bracketed, Counted, opened, spell, token_of, tokens_of}
+use Rattle.ere_syntax.specs.EreOf.{spelling_by, spellings_at, ere_of}
+use Rattle.ere_syntax.specs.Readers.{sign_of}
 use Rattle.ere_syntax.specs.Lexing.{token_and, read_token, lexed}
 use Rattle.ere_syntax.specs.Steps.{opened_by, follow_by, stepped}
 use Rattle.ere_syntax.specs.declared.sign.Sign.{Sign}

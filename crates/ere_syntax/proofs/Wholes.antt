@@ -2,7 +2,7 @@
 use Rattle.std.proofs.Common.{◌≡◌, ℕ, ◌<◌, ◌≤◌, true, false, List, [], ◌∷◌, length, Option, Some, None, Result, Ok, Err, IfOk, IfErr, refl, sym, ap, subst, ◌∙◌, arith}
 use Rattle.ere_syntax.specs.Tree.{Token, Tree, Empty, positions, nesting, IsWithinLimits}
 use Rattle.ere_syntax.specs.Reading.{Frame, fresh, finish, ended, read, is_some, IsNeat, AreNeat}
-use Rattle.ere_syntax.specs.Scan.{ere_of}
+use Rattle.ere_syntax.specs.EreOf.{ere_of}
 use Rattle.ere_syntax.specs.Lexing.{token_and, read_token, lexed}
 use Rattle.ere_syntax.specs.View.{view}
 use Rattle.ere_syntax.specs.Sizes.{IsSize, reached}

@@ -1,7 +1,8 @@
 -- What reading a text answers.
 use Rattle.std.specs.Prelude.{◌≡◌, ℕ, ◌≤◌, List, length, Some, Result, Ok, Err}
 use Rattle.ere_syntax.specs.Tree.{Tree, IsWithinLimits}
-use Rattle.ere_syntax.specs.Scan.{IsEreOf, ere_of}
+use Rattle.ere_syntax.specs.Scan.{IsEreOf}
+use Rattle.ere_syntax.specs.EreOf.{ere_of}
 use Rattle.ere_syntax.specs.View.{view}
 use Rattle.ere_syntax.specs.declared.tree.Ere.{Ere}
 use Rattle.ere_syntax.specs.declared.fault.EreFault.{EreFault}

@@ -1,7 +1,6 @@
--- Bytes, escapes and bracket expressions: how they are spelled, and how they are read from the front of a text.
-use Rattle.std.specs.Prelude.{codes, ◌≡◌, ℕ, zero, suc, ◌+◌, ◌-◌, ◌*◌, ◌%◌, Bool, true, false, ◌&&◌, ◌||◌, ◌==◌, nat_le, if◌then◌else◌, Option, Some, None, List, [], ◌∷◌, ◌++◌, length}
+-- Bytes, escapes and bracket expressions: how they are spelled.
+use Rattle.std.specs.Prelude.{codes, ◌≡◌, ℕ, zero, suc, ◌+◌, ◌-◌, ◌*◌, ◌%◌, Bool, true, false, ◌&&◌, ◌||◌, ◌==◌, nat_le, if◌then◌else◌, Option, Some, None, List, [], ◌∷◌, ◌++◌}
 use Rattle.ere_syntax.specs.Bytes.{alert, backspace, tab, newline, vertical_tab, form_feed, carriage_return, dash, dot, digit_zero, digit_seven, colon, equals, open_bracket, backslash, close_bracket, hat, lower_a, lower_b, lower_f, lower_n, lower_r, lower_t, lower_v}
-use Rattle.ere_syntax.specs.Reading.{◌>>=◌}
 use Rattle.ere_syntax.specs.declared.bracket.Front.{Front}
 use Rattle.ere_syntax.specs.declared.bracket.Front.TheVariants.{Closes, Names, Begins, Wrong}
 use Rattle.ere_syntax.specs.declared.class.Class.{Class}
@@ -49,26 +48,12 @@ octal_value n (d ∷ ds) = octal_value (n * 8 + (d - digit_zero)) ds
 -- the letters `a` (alert), `b` (backspace), `f` (form feed), `n` (newline), `r` (return), `t` (tab), `v` (vertical tab); any other byte is itself
 abbrev pub letter_value : ℕ → ℕ
 letter_value c =
-    if c == lower_a then alert else
-    if c == lower_b then backspace else
-    if c == lower_f then form_feed else
-    if c == lower_n then newline else
-    if c == lower_r then carriage_return else
-    if c == lower_t then tab else
-    if c == lower_v then vertical_tab else c
+    if c == lower_a then alert else if c == lower_b then backspace else if c == lower_f then form_feed else if c == lower_n then newline else
+    if c == lower_r then carriage_return else if c == lower_t then tab else if c == lower_v then vertical_tab else c
 
 abbrev pub escape_value : Escape → ℕ
 escape_value (Octal d ds) = octal_value 0 (d ∷ ds)
 escape_value (Letter c) = letter_value c
-
-abbrev pub octals_at : ℕ → List ℕ → List ℕ × List ℕ
-octals_at zero ts = ([], ts)
-octals_at (suc n) [] = ([], [])
-octals_at (suc n) (c ∷ cs) = if is_octal c then (c ∷ (octals_at n cs).0, (octals_at n cs).1) else ([], c ∷ cs)
-
-abbrev pub escape_at : List ℕ → Option (Escape × List ℕ)
-escape_at [] = None
-escape_at (c ∷ cs) = if is_octal c then Some (Octal c (octals_at 2 cs).0, (octals_at 2 cs).1) else Some (Letter c, cs)
 
 -- ---- one byte in brackets
 
@@ -88,10 +73,6 @@ abbrev pub value : One → ℕ
 value (Raw c) = c
 value (Escaped e) = escape_value e
 
-abbrev pub one_at : List ℕ → Option (One × List ℕ)
-one_at [] = None
-one_at (c ∷ cs) = if c == backslash then (escape_at cs >>= λ x. Some (Escaped x.0, x.1)) else Some (Raw c, cs)
-
 -- ---- classes
 
 -- with the `:]` after it
@@ -108,23 +89,6 @@ closed_name Punct = codes "punct:]"
 closed_name Space = codes "space:]"
 closed_name Upper = codes "upper:]"
 closed_name Xdigit = codes "xdigit:]"
-
-abbrev pub strip : List ℕ → List ℕ → Option (List ℕ)
-strip [] ts = Some ts
-strip (c ∷ cs) [] = None
-strip (c ∷ cs) (d ∷ ds) = if d == c then strip cs ds else None
-
-abbrev pub class_or : Class → Option (List ℕ) → Option (Class × List ℕ) → Option (Class × List ℕ)
-class_or c (Some rest) other = Some (c, rest)
-class_or c None other = other
-
-abbrev pub or_class : Class → List ℕ → Option (Class × List ℕ) → Option (Class × List ℕ)
-or_class c ts other = class_or c (strip (closed_name c) ts) other
-
-abbrev pub class_at : List ℕ → Option (Class × List ℕ)
-class_at ts =
-    or_class Alnum ts (or_class Alpha ts (or_class Blank ts (or_class Cntrl ts (or_class Digit ts (or_class Graph ts
-    (or_class Lower ts (or_class Print ts (or_class Punct ts (or_class Space ts (or_class Upper ts (or_class Xdigit ts None)))))))))))
 
 -- ---- members
 
@@ -145,9 +109,7 @@ names cs = starts colon cs || (starts dot cs || starts equals cs)
 -- what stands at the front within brackets, where the first argument says that no member stands before it
 abbrev pub front : Bool → List ℕ → Front
 front first [] = Wrong
-front first (c ∷ cs) =
-    if (c == close_bracket) && not first then Closes else
-    if (c == open_bracket) && names cs then Names else
+front first (c ∷ cs) = if (c == close_bracket) && not first then Closes else if (c == open_bracket) && names cs then Names else
     if (c == dash) && (not first && not (starts close_bracket cs)) then Wrong else Begins
 
 -- a dash that makes a range
@@ -180,35 +142,6 @@ abbrev pub AreMembers : Bool → List Member → List ℕ → Type 0
 AreMembers first [] rest = first ≡ false
 AreMembers first (m ∷ ms) rest = IsMember first m (spell_members ms ++ rest) × AreMembers false ms rest
 
-abbrev pub range_to : One → List ℕ → Option (Member × List ℕ)
-range_to l ts = if names_front ts then None else (one_at ts >>= λ h. if nat_le (value l) (value h.0) then Some (Range l h.0, h.1) else None)
-
-abbrev pub single_or : One → List ℕ → Option (List ℕ) → Option (Member × List ℕ)
-single_or l ts None = Some (Single l, ts)
-single_or l ts (Some us) = range_to l us
-
-abbrev pub named_at : List ℕ → Option (Member × List ℕ)
-named_at (c ∷ d ∷ cs) = if d == colon then (class_at cs >>= λ x. Some (Named x.0, x.1)) else None
-named_at _ = None
-
-abbrev pub member_at : List ℕ → Front → Option (Member × List ℕ)
-member_at ts Closes = None
-member_at ts Wrong = None
-member_at ts Names = named_at ts
-member_at ts Begins = one_at ts >>= λ x. single_or x.0 x.1 (dash_at x.1)
-
-abbrev pub behind : List ℕ → List ℕ
-behind [] = []
-behind (c ∷ cs) = cs
-
-abbrev pub members_by : (List ℕ → Option (List Member × List ℕ)) → List ℕ → Front → Option (List Member × List ℕ)
-members_by go ts Closes = Some ([], behind ts)
-members_by go ts f = member_at ts f >>= λ x. go x.1 >>= λ y. Some (x.0 ∷ y.0, y.1)
-
-abbrev pub members_at : ℕ → Bool → List ℕ → Option (List Member × List ℕ)
-members_at zero first ts = None
-members_at (suc w) first ts = members_by (members_at w false) ts (front first ts)
-
 -- ---- brackets, after the `[`
 
 pub record Bracket : Type 0 where
@@ -220,13 +153,3 @@ spell_bracket b = if b.negated then (hat ∷ spell_members b.members) else spell
 
 abbrev pub IsBracket : Bracket → List ℕ → Type 0
 IsBracket b rest = AreMembers true b.members rest × ((not b.negated && starts hat (spell_members b.members ++ rest)) ≡ false)
-
-abbrev pub bracket_by : List ℕ → Bool → Option (Bracket × List ℕ)
-bracket_by ts true = members_at (length ts) true (behind ts) >>= λ x. Some (record { negated = true; members = x.0 }, x.1)
-bracket_by ts false = members_at (length ts) true ts >>= λ x. Some (record { negated = false; members = x.0 }, x.1)
-
-abbrev pub bracket_at : List ℕ → Option (Bracket × List ℕ)
-bracket_at ts = bracket_by ts (starts hat ts)
-
-abbrev pub byte_and : ℕ → List ℕ → ℕ × List ℕ
-byte_and c rest = (c, rest)

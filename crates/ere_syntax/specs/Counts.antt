@@ -1,8 +1,9 @@
 -- Intervals as the code reads them: a count past 256 is kept as 256.
 use Rattle.std.specs.Prelude.{ℕ, ◌+◌, ◌*◌, ◌-◌, Bool, false, min, if◌then◌else◌, Option, Some, None, List, [], ◌∷◌}
 use Rattle.ere_syntax.specs.Bytes.{comma, digit_zero, close_brace}
-use Rattle.ere_syntax.specs.Bracket.{starts, behind}
-use Rattle.ere_syntax.specs.Scan.{is_digit, digits_at, counts_fit}
+use Rattle.ere_syntax.specs.Bracket.{starts}
+use Rattle.ere_syntax.specs.Readers.{behind, digits_at}
+use Rattle.ere_syntax.specs.Signs.{is_digit, counts_fit}
 
 abbrev pub saturated : ℕ → List ℕ → ℕ
 saturated n [] = n

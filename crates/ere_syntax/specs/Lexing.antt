@@ -2,8 +2,10 @@
 use Rattle.std.specs.Prelude.{ℕ, true, ◌==◌, if◌then◌else◌, Option, Some, None, List, [], ◌∷◌, option_map}
 use Rattle.ere_syntax.specs.Tree.{Bytes, Token, Atom, Begin, Stop, Open, Close, Bar, Times}
 use Rattle.ere_syntax.specs.Reading.{◌>>=◌}
-use Rattle.ere_syntax.specs.Bracket.{byte_and, escape_at, escape_value}
-use Rattle.ere_syntax.specs.Scan.{table, sign_of, sign_token, spelling_by, token_of}
+use Rattle.ere_syntax.specs.Bracket.{escape_value}
+use Rattle.ere_syntax.specs.Readers.{byte_and, escape_at, sign_of}
+use Rattle.ere_syntax.specs.Scan.{table, sign_token, token_of}
+use Rattle.ere_syntax.specs.EreOf.{spelling_by}
 use Rattle.ere_syntax.specs.Reads.{read_bracket}
 use Rattle.ere_syntax.specs.Counts.{Counted, counted, fitting}
 use Rattle.ere_syntax.specs.declared.sign.Sign.{Sign}

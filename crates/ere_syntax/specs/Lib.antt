@@ -2,7 +2,10 @@ pub mod Bytes
 pub mod Tree
 pub mod Reading
 pub mod Bracket
+pub mod Readers
 pub mod Scan
+pub mod EreOf
+pub mod Signs
 pub mod View
 pub mod Matches
 pub mod Reads

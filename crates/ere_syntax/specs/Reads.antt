@@ -3,7 +3,8 @@ use Rattle.std.specs.Prelude.{ℕ, Bool, true, ◌==◌, nat_le, if◌then◌els
 use Rattle.ere_syntax.specs.Tree.{Bytes}
 use Rattle.ere_syntax.specs.Reading.{◌>>=◌}
 use Rattle.ere_syntax.specs.Bytes.{colon}
-use Rattle.ere_syntax.specs.Bracket.{names_front, one_at, dash_at, value, byte_and, or_class, class_at, Member, Single, Range, Named, members_at, bracket_at}
+use Rattle.ere_syntax.specs.Bracket.{names_front, dash_at, value, Member, Single, Range, Named}
+use Rattle.ere_syntax.specs.Readers.{one_at, byte_and, or_class, class_at, members_at, bracket_at}
 use Rattle.ere_syntax.specs.Scan.{between, in_class, in_members, in_bracket, table}
 use Rattle.ere_syntax.specs.declared.class.Class.{Class}
 use Rattle.ere_syntax.specs.declared.class.Class.TheVariants.{Punct}

@@ -1,9 +1,10 @@
--- The tokens of a text: how they are spelled and read, and the tree of a text.
-use Rattle.std.specs.Prelude.{◌≡◌, ℕ, zero, suc, ◌+◌, ◌-◌, ◌*◌, ◌≤◌, Bool, true, false, ◌&&◌, ◌||◌, ◌==◌, nat_le, if◌then◌else◌, Option, Some, None, List, [], ◌∷◌, ◌++◌, length}
-use Rattle.ere_syntax.specs.Bytes.{tab, carriage_return, last_control, space, exclamation, dollar, open_paren, close_paren, star, plus, comma, dot, slash, digit_zero, digit_nine, colon, query, at_sign, upper_a, upper_f, upper_z, open_bracket, backslash, hat, backquote, lower_a, lower_f, lower_z, open_brace, bar, close_brace, tilde, delete}
-use Rattle.ere_syntax.specs.Tree.{Bytes, Token, Atom, Begin, Stop, Open, Close, Bar, Times, Tree, print, IsEre, most_count}
-use Rattle.ere_syntax.specs.Reading.{◌>>=◌, tree_of}
-use Rattle.ere_syntax.specs.Bracket.{not, starts, behind, Escape, spell_escape, IsEscape, escape_value, escape_at, value, Member, Single, Range, Named, Bracket, spell_bracket, IsBracket, bracket_at}
+-- The tokens of a text: how they are spelled, and the tree of a text.
+use Rattle.std.specs.Prelude.{◌≡◌, ℕ, zero, suc, ◌+◌, ◌-◌, ◌≤◌, Bool, true, false, ◌&&◌, ◌||◌, ◌==◌, nat_le, if◌then◌else◌, Option, Some, None, List, [], ◌∷◌, ◌++◌}
+use Rattle.ere_syntax.specs.Bytes.{tab, carriage_return, last_control, space, exclamation, slash, digit_zero, digit_nine, colon, at_sign, upper_a, upper_f, upper_z, open_bracket, backslash, backquote, lower_a, lower_f, lower_z, open_brace, tilde, delete}
+use Rattle.ere_syntax.specs.Tree.{Bytes, Token, Atom, Begin, Stop, Open, Close, Bar, Times, Tree, print, IsEre}
+use Rattle.ere_syntax.specs.Bracket.{not, Escape, spell_escape, IsEscape, escape_value, value, Member, Single, Range, Named, Bracket, spell_bracket, IsBracket}
+use Rattle.ere_syntax.specs.Readers.{interval_at, sign_of}
+use Rattle.ere_syntax.specs.Signs.{Interval, IsInterval, code, fits, high_of, low_of, spell_interval}
 use Rattle.ere_syntax.specs.declared.class.Class.{Class}
 use Rattle.ere_syntax.specs.declared.class.Class.TheVariants.{Alnum, Alpha, Blank, Cntrl, Digit, Graph, Lower, Print, Punct, Space, Upper, Xdigit}
 use Rattle.ere_syntax.specs.declared.sign.Sign.{Sign}
@@ -48,93 +49,7 @@ in_members (m ∷ ms) c = in_member m c || in_members ms c
 abbrev pub in_bracket : Bracket → ℕ → Bool
 in_bracket b c = if b.negated then not (in_members b.members c) else in_members b.members c
 
--- ---- intervals, after the `{`
-
--- `0` to `9`
-abbrev pub is_digit : ℕ → Bool
-is_digit c = nat_le digit_zero c && nat_le c digit_nine
-
-abbrev pub digits_at : List ℕ → List ℕ × List ℕ
-digits_at [] = ([], [])
-digits_at (c ∷ cs) = if is_digit c then (c ∷ (digits_at cs).0, (digits_at cs).1) else ([], c ∷ cs)
-
--- `{low}`, or `{low,high}` where high may be empty
-pub data Interval : Type 0 where
-  Exact : List ℕ → Interval
-  Upto : List ℕ → List ℕ → Interval
-
-abbrev pub spell_interval : Interval → List ℕ
-spell_interval (Exact ds) = ds ++ (close_brace ∷ [])
-spell_interval (Upto ds es) = ds ++ (comma ∷ (es ++ (close_brace ∷ [])))
-
-abbrev pub AreDigits : List ℕ → Type 0
-AreDigits [] = Unit {0}
-AreDigits (c ∷ cs) = (is_digit c ≡ true) × AreDigits cs
-
-abbrev pub is_empty : List ℕ → Bool
-is_empty [] = true
-is_empty (c ∷ cs) = false
-
-abbrev pub IsInterval : Interval → Type 0
-IsInterval (Exact ds) = AreDigits ds × (is_empty ds ≡ false)
-IsInterval (Upto ds es) = AreDigits ds × AreDigits es × (is_empty ds ≡ false)
-
-abbrev pub upto_by : List ℕ → List ℕ × List ℕ → Option (Interval × List ℕ)
-upto_by ds x = if starts close_brace x.1 then Some (Upto ds x.0, behind x.1) else None
-
-abbrev pub interval_by : List ℕ × List ℕ → Option (Interval × List ℕ)
-interval_by x =
-    if is_empty x.0 then None else
-    if starts close_brace x.1 then Some (Exact x.0, behind x.1) else
-    if starts comma x.1 then upto_by x.0 (digits_at (behind x.1)) else None
-
-abbrev pub interval_at : List ℕ → Option (Interval × List ℕ)
-interval_at ts = interval_by (digits_at ts)
-
-abbrev pub number_after : ℕ → List ℕ → ℕ
-number_after n [] = n
-number_after n (d ∷ ds) = number_after (n * 10 + (d - digit_zero)) ds
-
-abbrev pub low_of : Interval → ℕ
-low_of (Exact ds) = number_after 0 ds
-low_of (Upto ds es) = number_after 0 ds
-
-abbrev pub high_of : Interval → Option ℕ
-high_of (Exact ds) = Some (number_after 0 ds)
-high_of (Upto ds []) = None
-high_of (Upto ds (e ∷ es)) = Some (number_after 0 (e ∷ es))
-
-abbrev pub counts_fit : ℕ → Option ℕ → Bool
-counts_fit low None = nat_le low most_count
-counts_fit low (Some high) = nat_le low high && nat_le high most_count
-
-abbrev pub fits : Interval → Bool
-fits i = counts_fit (low_of i) (high_of i)
-
 -- ---- tokens
-
--- `.` `^` `$` `(` `)` `|` `*` `+` `?` `{` `[` and the backslash
-abbrev pub code : Sign → ℕ
-code Dot = dot
-code Hat = hat
-code Dollar = dollar
-code OpenMark = open_paren
-code CloseMark = close_paren
-code BarMark = bar
-code Star = star
-code Plus = plus
-code Query = query
-code Brace = open_brace
-code BracketMark = open_bracket
-code Backslash = backslash
-
-abbrev pub or_sign : Sign → ℕ → Option Sign → Option Sign
-or_sign s c other = if c == code s then Some s else other
-
-unfoldable pub sign_of : ℕ → Option Sign
-sign_of c =
-    or_sign Dot c (or_sign Hat c (or_sign Dollar c (or_sign OpenMark c (or_sign CloseMark c (or_sign BarMark c
-    (or_sign Star c (or_sign Plus c (or_sign Query c (or_sign Brace c (or_sign BracketMark c (or_sign Backslash c None)))))))))))
 
 pub data Spelling : Type 0 where
   Ordinary : ℕ → Spelling
@@ -215,29 +130,3 @@ pub record IsEreOf (text : List ℕ) (t : Tree) : Type 0 where
   pub fine : AreSpellings 0 spellings
   pub tokens : print t ≡ tokens_of spellings
   pub ere : IsEre t
-
--- ---- reading
-
-abbrev pub counted_or : List ℕ → Option (Interval × List ℕ) → Option (Spelling × List ℕ)
-counted_or cs None = Some (Ordinary open_brace, cs)
-counted_or cs (Some x) = if fits x.0 then Some (Counted x.0, x.1) else None
-
-abbrev pub spelling_by : ℕ → ℕ → List ℕ → Option Sign → Option (Spelling × List ℕ)
-spelling_by groups c cs None = Some (Ordinary c, cs)
-spelling_by groups c cs (Some Backslash) = escape_at cs >>= λ x. Some (Escapes x.0, x.1)
-spelling_by groups c cs (Some BracketMark) = bracket_at cs >>= λ x. Some (Bracketed x.0, x.1)
-spelling_by groups c cs (Some Brace) = counted_or cs (interval_at cs)
-spelling_by zero c cs (Some CloseMark) = Some (Ordinary (code CloseMark), cs)
-spelling_by groups c cs (Some s) = Some (Signed s, cs)
-
-abbrev pub spellings_at : ℕ → ℕ → List ℕ → Option (List Spelling)
-spellings_at w groups [] = Some []
-spellings_at zero groups (c ∷ cs) = None
-spellings_at (suc w) groups (c ∷ cs) = spelling_by groups c cs (sign_of c) >>= λ x. spellings_at w (opened groups x.0) x.1 >>= λ ss. Some (x.0 ∷ ss)
-
-abbrev pub spellings_of : List ℕ → Option (List Spelling)
-spellings_of text = spellings_at (length text) 0 text
-
--- the tree of the text, if it has one
-abbrev pub ere_of : List ℕ → Option Tree
-ere_of text = spellings_of text >>= λ ss. tree_of (tokens_of ss)

@@ -7,22 +7,16 @@ Bytes = List Bool
 
 pub data Token : Type 0 where
   Atom : Bytes → Token
-  Begin : Token
-  Stop : Token
-  Open : Token
-  Close : Token
-  Bar : Token
+  Begin Stop Open Close Bar : Token
   Times : ℕ → Option ℕ → Token
 
 pub data Tree : Type 0 where
   Empty : Tree
   Set : Bytes → Tree
-  Start : Tree
-  End : Tree
+  Start End : Tree
   Group : Tree → Tree
   Repeat : Tree → ℕ → Option ℕ → Tree
-  Concat : Tree → Tree → Tree
-  Or : Tree → Tree → Tree
+  Concat Or : Tree → Tree → Tree
 
 abbrev pub print : Tree → List Token
 print Empty = []
@@ -65,23 +59,18 @@ times low (Some high) = high
 
 abbrev pub positions : Tree → ℕ
 positions Empty = 0
-positions (Set s) = 1
-positions Start = 1
-positions End = 1
 positions (Group t) = positions t
 positions (Repeat t low high) = positions t * times low high
 positions (Concat a b) = positions a + positions b
 positions (Or a b) = positions a + positions b
+positions _ = 1
 
 abbrev pub nesting : Tree → ℕ
-nesting Empty = 0
-nesting (Set s) = 0
-nesting Start = 0
-nesting End = 0
 nesting (Group t) = nesting t + 1
 nesting (Repeat t low high) = nesting t + 1
 nesting (Concat a b) = max (nesting a) (nesting b)
 nesting (Or a b) = max (nesting a) (nesting b)
+nesting _ = 0
 
 -- so many positions an expression has at most, and so deep groups and repetitions stand in one another
 abbrev pub most_positions : ℕ

@@ -1,6 +1,7 @@
 //! The parts of a bracket expression.
 ghost use Rattle.std.specs.Prelude.{◌≡◌, ℕ, ◌<◌, ◌||◌, false, length, option_map, slice_index_or};
-ghost use Rattle.ere_syntax.specs.Bracket.{behind, byte_and, dash_at, front, member_at, names, names_front, one_at, starts, value};
+ghost use Rattle.ere_syntax.specs.Bracket.{dash_at, front, names, names_front, starts, value};
+ghost use Rattle.ere_syntax.specs.Readers.{behind, byte_and, member_at, one_at};
 ghost use Rattle.ere_syntax.specs.Reads.{begun, closed_by, in_item, item_and, item_of, kept, read_bracket, read_members, read_named, set_and, upper_by};
 
 use crate::class::{Class, between, class_of};

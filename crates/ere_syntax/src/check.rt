@@ -2,7 +2,7 @@
 ghost use Rattle.std.specs.Prelude.{◌≡◌, ◌<◌, ◌+◌, ◌^◌, true, MatchResult, None};
 ghost use Rattle.ere_syntax.specs.Lexing.{token_view};
 ghost use Rattle.ere_syntax.specs.Reading.{has_some, is_some, takes_times};
-ghost use Rattle.ere_syntax.specs.Scan.{ere_of};
+ghost use Rattle.ere_syntax.specs.EreOf.{ere_of};
 ghost use Rattle.ere_syntax.specs.Steps.{follow_by};
 
 use crate::token::{Token, next_token};

@@ -1,6 +1,7 @@
 //! The classes of bracket expressions, over ASCII.
 ghost use Rattle.std.specs.Prelude.{◌≡◌, option_map};
-ghost use Rattle.ere_syntax.specs.Bracket.{closed_name, strip};
+ghost use Rattle.ere_syntax.specs.Bracket.{closed_name};
+ghost use Rattle.ere_syntax.specs.Readers.{strip};
 ghost use Rattle.ere_syntax.specs.Scan.{between, in_class};
 ghost use Rattle.ere_syntax.specs.Reads.{class_and, class_read, in_punct};
 

@@ -1,6 +1,7 @@
 //! Escapes: those of awk's strings, and any other escaped byte is that byte.
 ghost use Rattle.std.specs.Prelude.{◌≡◌, ◌≤◌, ◌-◌, ◌∷◌, true, option_map};
-ghost use Rattle.ere_syntax.specs.Bracket.{byte_and, escape_at, escape_value, is_octal, letter_value, octal_value, octals_at};
+ghost use Rattle.ere_syntax.specs.Bracket.{escape_value, is_octal, letter_value, octal_value};
+ghost use Rattle.ere_syntax.specs.Readers.{byte_and, escape_at, octals_at};
 ghost use Rattle.ere_syntax.specs.Reads.{kept};
 
 fn is_octal(byte: u8) -> bool

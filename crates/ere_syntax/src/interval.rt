@@ -1,6 +1,7 @@
 //! Intervals: the counts in braces.
 ghost use Rattle.std.specs.Prelude.{◌≡◌, ◌≤◌, option_map, min, true, ◌+◌, ◌*◌, ◌-◌};
-ghost use Rattle.ere_syntax.specs.Scan.{digits_at, is_digit};
+ghost use Rattle.ere_syntax.specs.Readers.{digits_at};
+ghost use Rattle.ere_syntax.specs.Signs.{is_digit};
 ghost use Rattle.ere_syntax.specs.Counts.{begins_number, closing, counted, counts_and, fitting, saturated, times_and, upto};
 
 use crate::bracket::{behind, starts};

@@ -2,7 +2,7 @@
 ghost use Rattle.std.specs.Prelude.{◌≡◌, ◌<◌, ◌≤◌, [], IfErr, IfOk, length, true};
 ghost use Rattle.ere_syntax.specs.Answers.{BuildAnswer, IsRefused, IsTreeOf};
 ghost use Rattle.ere_syntax.specs.Reading.{is_some};
-ghost use Rattle.ere_syntax.specs.Scan.{ere_of};
+ghost use Rattle.ere_syntax.specs.EreOf.{ere_of};
 ghost use Rattle.ere_syntax.specs.View.{view};
 
 use crate::check::check;

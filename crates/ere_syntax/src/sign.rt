@@ -1,6 +1,6 @@
 //! The bytes that are not ordinary everywhere.
 ghost use Rattle.std.specs.Prelude.{◌≡◌};
-ghost use Rattle.ere_syntax.specs.Scan.{sign_of};
+ghost use Rattle.ere_syntax.specs.Readers.{sign_of};
 
 /// A byte with a meaning of its own.
 #[derive(Clone, Copy)]
@@ -20,7 +20,7 @@ pub(crate) enum Sign {
 }
 
 /// The sign that the byte is, if it is one.
-#[tactic(auto, unfolding(crate::specs::Scan::sign_of))]
+#[tactic(auto, unfolding(crate::specs::Readers::sign_of))]
 pub(crate) fn sign_of(byte: u8) -> Option<Sign>
     ensures { result ≡ sign_of byte }
 {

@@ -10,7 +10,8 @@ use Rattle.wasm_model.specs.Machines.{Asks, Conf, Ends, Goes, ProgramForm, Turn,
 use Rattle.wasm_model.specs.Runs.{Steps, TakenAs}
 use Rattle.wasm_model.specs.declared.host.HostAnswer.{HostAnswer}
 use Rattle.wasm_model.specs.declared.host.HostAnswer.TheVariants as told
-use Rattle.host_imports.specs.Imports.{can_fault, import_answer, import_at, lets_go}
+use Rattle.host_imports.specs.Imports.{import_answer, import_at, lets_go}
+use Rattle.host_imports.specs.FaultColumns.{can_fault}
 use Rattle.host_imports.specs.declared.import.Import.{Import}
 use Rattle.host_imports.specs.declared.import.Import.TheVariants.{OfPrimitive, Variadic, Arg, Drop, IterFree, FreeArray}
 use Rattle.host_step.specs.HostState.{HostState}

@@ -8,7 +8,8 @@ use Rattle.std.specs.FinMap.Entries.{below_all, find, is_sorted, same_entries}
 use Rattle.std.specs.Ordering.{eq_by_cmp, int_cmp, is_lt}
 use Rattle.std.proofs.lemmas.List.{length-map}
 use Rattle.awk_values.specs.declared.fault.Fault.{Fault}
-use Rattle.host_step.specs.HostState.{HostState, live_arrays, live_iterators, live_values}
+use Rattle.host_step.specs.HostState.{HostState}
+use Rattle.host_step.specs.Live.{live_arrays, live_iterators, live_values}
 use Rattle.host_values.specs.Forms.{HostForm, IsHeld, Shows, Stands}
 use Rattle.host_values.specs.Shown.{SharesBy, Shown}
 

@@ -1,7 +1,8 @@
 -- The host at the start of a job.
 use Rattle.std.proofs.Common.{◌≡◌, List, [], None, Some, ap, sym, subst}
-use Rattle.sem_primitives.specs.InputMeaning.{to_come}
-use Rattle.sem_primitives.specs.Jobs.{JobForm, Opened, shared_at_start}
+use Rattle.sem_primitives.specs.InputParts.{to_come}
+use Rattle.sem_primitives.specs.Jobs.{JobForm, Opened}
+use Rattle.sem_primitives.specs.ClosedJobs.{shared_at_start}
 use Rattle.sem_primitives.specs.SharedState.{Inner, Pairs}
 use Rattle.world_core.specs.WorldState.{Entry, Outside, Source, State}
 use Rattle.host_step.specs.HostState.{HostState}

@@ -1,7 +1,8 @@
 -- What machines ask of this meaning.
 use Rattle.std.specs.Prelude.{ℕ, List, []}
 use Rattle.std.proofs.Common.{refl, sym, subst, append-nil}
-use Rattle.wasm_model.specs.Hosts.{GoesOn, Typed}
+use Rattle.wasm_model.specs.Hosts.{Typed}
+use Rattle.wasm_model.specs.HostAnswers.{GoesOn}
 use Rattle.wasm_model.specs.declared.host.HostAnswer.{HostAnswer}
 use Rattle.wasm_model.specs.declared.host.HostAnswer.TheVariants as told
 use Rattle.wasm_store.specs.Memories.{MemoryForm}

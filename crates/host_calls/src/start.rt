@@ -5,7 +5,8 @@ ghost use Rattle.host_values.specs.Findings.{ShownFirst};
 ghost use Rattle.host_values.specs.Shown.{Shown};
 ghost use Rattle.awk_values.specs.Values.{text_of_value};
 ghost use Rattle.host_calls.specs.Forms.{host_form};
-ghost use Rattle.host_step.specs.HostState.{HostState, live_arrays, live_iterators, live_values};
+ghost use Rattle.host_step.specs.HostState.{HostState};
+ghost use Rattle.host_step.specs.Live.{live_arrays, live_iterators, live_values};
 ghost use Rattle.host_tables.specs.Starts.{job_of};
 
 use crate::host::Host;

@@ -3,7 +3,8 @@ use Rattle.std.proofs.Common.{◌≡◌, inl, inr, ℕ, ◌<◌, ◌≤◌, [], 
 use Rattle.std.specs.Prelude.{◌==◌, ◌&&◌, nat_le, if◌then◌else◌}
 use Rattle.awk_values.specs.declared.fault.Fault.TheVariants as faults
 use Rattle.ere_syntax.specs.Answers.{IsRefused, IsTreeOf}
-use Rattle.ere_syntax.specs.Scan.{IsEreOf, ere_of}
+use Rattle.ere_syntax.specs.Scan.{IsEreOf}
+use Rattle.ere_syntax.specs.EreOf.{ere_of}
 use Rattle.ere_syntax.specs.Tree.{IsWithinLimits, Tree, nesting, positions}
 use Rattle.ere_syntax.specs.declared.fault.EreFault.{EreFault}
 use Rattle.ere_syntax.specs.declared.fault.EreFault.TheVariants.{BadEre, EreTooLarge, NoMemory}

@@ -1,4 +1,4 @@
--- The table of imports of the modules `awk1` and `awk2`: number, name, arguments and answer of each, what it spends, whether it may trap or fault.
+-- The table of imports of the modules `awk1` and `awk2`: arguments and answer of each, what it spends, whether it may trap or fault. Names and numbers are in Names.
 use Rattle.std.specs.List.{position}
 use Rattle.std.specs.Cmp.Lexicographic.{pointwise}
 use Rattle.std.specs.Prelude.{ℕ, ◌==◌, nat_lt, Bool, true, false, List, [], ◌∷◌, ◌++◌, codes, Option, Some, None, slice_get, cond}
@@ -6,7 +6,6 @@ use Rattle.wasm_types.specs.Syntax.{Signature}
 use Rattle.wasm_types.specs.declared.types.ValType.{ValType}
 use Rattle.wasm_types.specs.declared.types.ValType.TheVariants.{I32, I64}
 use Rattle.sem_primitives.specs.Table.{arguments_of, answer_of}
-use Rattle.sem_primitives.specs.Table as table
 use Rattle.sem_primitives.specs.declared.sorts.Argument.{Argument}
 use Rattle.sem_primitives.specs.declared.sorts.Argument.TheVariants as argument
 use Rattle.sem_primitives.specs.declared.sorts.Answer.{Answer}
@@ -45,30 +44,24 @@ import_count = 56
 -- how many of the last values are taken, and, of those that write, where to
 abbrev pub listing_arguments : VariadicImport → List Argument
 listing_arguments Sprintf = argument.Constant constant.Count ∷ []
-listing_arguments Print = argument.Constant constant.Count ∷ argument.Constant constant.Destination ∷ []
-listing_arguments Printf = argument.Constant constant.Count ∷ argument.Constant constant.Destination ∷ []
+listing_arguments _ = argument.Constant constant.Count ∷ argument.Constant constant.Destination ∷ []
 
 abbrev pub listing_answer : VariadicImport → Answer
 listing_answer Sprintf = answer.Of sort.Value
-listing_answer Print = answer.Done
-listing_answer Printf = answer.Done
+listing_answer _ = answer.Done
 
 -- an array and an iterator go by numbers of their own, which are not handles
 abbrev pub import_arguments : Import → List Argument
 import_arguments (OfPrimitive p) = arguments_of p
 import_arguments (Variadic l) = listing_arguments l
-import_arguments Arg = argument.Of sort.Value ∷ []
-import_arguments Drop = argument.Of sort.Value ∷ []
 import_arguments IterFree = argument.Of sort.Iterator ∷ []
 import_arguments FreeArray = argument.Of sort.Array ∷ []
+import_arguments _ = argument.Of sort.Value ∷ []
 
 abbrev pub import_answer : Import → Answer
 import_answer (OfPrimitive p) = answer_of p
 import_answer (Variadic l) = listing_answer l
-import_answer Arg = answer.Nothing
-import_answer Drop = answer.Nothing
-import_answer IterFree = answer.Nothing
-import_answer FreeArray = answer.Nothing
+import_answer _ = answer.Nothing
 
 -- Which arguments are spent, by their sort: their numbers stand for nothing after the call. A handle is spent by every import but `dup`, which only
 -- looks; the number of an array by `free_array`, that of an iterator by `iter_free`.
@@ -97,20 +90,6 @@ lets_go Drop = true
 lets_go IterFree = true
 lets_go FreeArray = true
 lets_go _ = false
-
--- whether a call may keep a fault
-abbrev pub can_fault : Import → Bool
-can_fault (OfPrimitive p) = table.can_fault p
-can_fault (Variadic l) = true
-can_fault _ = false
-
--- whether a call with words of its types may trap: what takes no argument and is always in turn never does
-abbrev pub can_trap : Import → Bool
-can_trap (OfPrimitive row.Uninit) = false
-can_trap (OfPrimitive row.NewArray) = false
-can_trap (OfPrimitive row.BeginEnd) = false
-can_trap (OfPrimitive row.NextFile) = false
-can_trap _ = true
 
 -- Types.
 

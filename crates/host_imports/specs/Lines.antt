@@ -6,7 +6,8 @@ use Rattle.sem_primitives.specs.declared.sorts.Argument.TheVariants as argument
 use Rattle.sem_primitives.specs.declared.sorts.Answer.{Answer}
 use Rattle.sem_primitives.specs.declared.sorts.Answer.TheVariants as answer
 use Rattle.sem_primitives.specs.declared.sorts.Sort.TheVariants as sort
-use Rattle.host_imports.specs.Imports.{can_fault, can_trap, import_answer, import_arguments, imports, spends}
+use Rattle.host_imports.specs.Imports.{import_answer, import_arguments, imports, spends}
+use Rattle.host_imports.specs.FaultColumns.{can_fault, can_trap}
 use Rattle.host_imports.specs.Names.{import_name, import_number}
 use Rattle.host_imports.specs.declared.import.Import.{Import}
 

@@ -1,6 +1,7 @@
 //! The imports of the modules `awk1` and `awk2`.
 ghost use Rattle.std.specs.Prelude.{◌≡◌, slice_get};
-ghost use Rattle.host_imports.specs.Imports.{can_fault, can_trap, import_answer, import_arguments, import_at, imports_in, lets_go, spends};
+ghost use Rattle.host_imports.specs.Imports.{import_answer, import_arguments, import_at, imports_in, lets_go, spends};
+ghost use Rattle.host_imports.specs.FaultColumns.{can_fault, can_trap};
 ghost use Rattle.host_imports.specs.Names.{import_name, import_number};
 
 use sem_primitives::{Answer, Argument, Constant, Primitive, Sort};

@@ -2,7 +2,7 @@
 ghost use Rattle.std.specs.Prelude.{◌≡◌, ◌<◌, IfOk, IfSome, Some, map, option_copied, slice_get};
 ghost use Rattle.host_imports.specs.Imports.{host_finds, host_types, import_type, imports_in, number_below, number_named, with_type};
 ghost use Rattle.host_imports.specs.Links.{signature_if};
-ghost use Rattle.wasm_model.specs.Hosts.{found_as};
+ghost use Rattle.wasm_model.specs.HostAnswers.{found_as};
 ghost use Rattle.wasm_types.specs.View.{signature_of};
 
 use crate::import::{IMPORTS, Import, imports_in};

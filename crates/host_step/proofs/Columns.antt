@@ -15,7 +15,8 @@ use Rattle.world_core.specs.WorldState.{Action}
 use Rattle.host_step.specs.Arguments.{and_then, decode}
 use Rattle.host_step.specs.HostState.{HostState, Names}
 use Rattle.host_step.specs.HostStep.{Acts, Comes, Given, Goes, IsGiven, Refuses, Settles, StepBy, StepOf, Traps, acts, carried, come, comes, is_freed, or_fault, primitive_acts, refuses, where_fit}
-use Rattle.host_imports.specs.Imports.{can_fault, can_trap, import_answer, import_arguments, spends}
+use Rattle.host_imports.specs.Imports.{import_answer, import_arguments, spends}
+use Rattle.host_imports.specs.FaultColumns.{can_fault, can_trap}
 use Rattle.host_imports.specs.declared.import.Import.{Import}
 use Rattle.host_imports.specs.declared.import.Import.TheVariants.{OfPrimitive, Variadic, Arg, Drop, IterFree, FreeArray}
 

@@ -1,7 +1,7 @@
 -- Answers as words.
 use Rattle.std.specs.Prelude.{ℕ, ◌-◌, ◌^◌, ◌<◌, ◌≡◌, pos, Option, Some, None}
 use Rattle.awk_values.specs.declared.value.Value.{Value as AnyValue}
-use Rattle.sem_primitives.specs.Constants.{flag_number}
+use Rattle.sem_primitives.specs.ConstantNumbers.{flag_number}
 use Rattle.sem_primitives.specs.Numbers.{faulted_word, number_word}
 use Rattle.sem_primitives.specs.Sorts.{In, InAnswer}
 use Rattle.sem_primitives.specs.declared.sorts.Sort.{Sort}

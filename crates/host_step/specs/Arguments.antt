@@ -96,5 +96,4 @@ abbrev pub decode : (spent : Sort → Bool) → List ℕ → Names → (wanted :
 decode spent memory names [] words = and_then (no_more words) (λ end. Ok (end, names))
 decode spent memory names (a ∷ wanted) words =
     and_then (front names memory a words) (λ x.
-    and_then (decode spent memory (taken_front spent a words names) wanted x.1) (λ rest.
-    Ok ((x.0, rest.0), rest.1)))
+    and_then (decode spent memory (taken_front spent a words names) wanted x.1) (λ rest. Ok ((x.0, rest.0), rest.1)))

@@ -4,14 +4,15 @@ use Rattle.awk_values.specs.declared.fault.Fault.{Fault}
 use Rattle.awk_values.specs.declared.fault.Fault.TheVariants.{Range, DivisionByZero, FieldNumber, NextOutside}
 use Rattle.awk_values.specs.declared.value.Value.{Value}
 use Rattle.awk_values.specs.declared.value.Value.TheVariants.{Uninit, Num, Text, StrNum}
-use Rattle.ere_syntax.specs.Scan.{sign_of}
+use Rattle.ere_syntax.specs.Readers.{sign_of}
 use Rattle.sem_primitives.specs.declared.table.Primitive.TheVariants as row
 use Rattle.wasm_model.specs.declared.host.HostAnswer.{HostAnswer}
 use Rattle.wasm_model.specs.declared.host.HostAnswer.TheVariants.{Done, Trap}
 use Rattle.wasm_store.specs.declared.trap.TrapKind.TheVariants.{BadHandle, BadPointer, BadArgument}
 use Rattle.wasm_store.specs.declared.word.Word.TheVariants.{I32, I64}
 use Rattle.wasm_types.specs.declared.types.ValType.TheVariants as ty
-use Rattle.host_step.specs.HostState.{HostState, live_values, live_arrays, live_iterators}
+use Rattle.host_step.specs.HostState.{HostState}
+use Rattle.host_step.specs.Live.{live_values, live_arrays, live_iterators}
 use Rattle.host_imports.specs.Imports.{host_finds, import_at, imports}
 use Rattle.host_imports.specs.Names.{import_number}
 use Rattle.host_step.specs.Examples.{Call, new, call, answers, after, done, gives, counts, fails, fails_wide, start, holding, with_fault}

@@ -12,7 +12,8 @@ use Rattle.wasm_store.specs.declared.word.Word.TheVariants.{I32, I64}
 use Rattle.world_core.specs.declared.world.Ending.TheVariants.{End}
 use Rattle.world_core.specs.WorldState.{Action, Entry, Outside, Named, Source, absent, replaced}
 use Rattle.host_step.specs.HostState.{HostState}
-use Rattle.host_step.specs.HostStep.{Given, step}
+use Rattle.host_step.specs.HostStep.{Given}
+use Rattle.host_step.specs.NumberedStep.{step}
 use Rattle.host_step.specs.Starts.{state_at_start}
 use Rattle.host_step.specs.Tables.{entered}
 use Rattle.host_imports.specs.declared.import.Import.{Import}

@@ -4,14 +4,16 @@ use Rattle.std.specs.Fmt.{digits}
 use Rattle.awk_values.specs.declared.fault.Fault.TheVariants.{FieldNumber, Format, WriteFailed}
 use Rattle.awk_values.specs.declared.value.Value.{Value}
 use Rattle.awk_values.specs.declared.value.Value.TheVariants.{Uninit, Num, Text, StrNum}
-use Rattle.ere_syntax.specs.Scan.{sign_of, table}
+use Rattle.ere_syntax.specs.Scan.{table}
+use Rattle.ere_syntax.specs.Readers.{sign_of}
 use Rattle.sem_primitives.specs.declared.table.Primitive.TheVariants as row
 use Rattle.wasm_model.specs.declared.host.HostAnswer.{HostAnswer}
 use Rattle.wasm_model.specs.declared.host.HostAnswer.TheVariants.{Done, Trap}
 use Rattle.wasm_store.specs.declared.trap.TrapKind.TheVariants.{BadHandle, BadPointer, BadArgument}
 use Rattle.wasm_store.specs.declared.word.Word.TheVariants.{I32, I64}
 use Rattle.world_core.specs.WorldState.{Action, Open, Standard, Named, absent, puts, replaced}
-use Rattle.host_step.specs.HostState.{HostState, live_values}
+use Rattle.host_step.specs.HostState.{HostState}
+use Rattle.host_step.specs.Live.{live_values}
 use Rattle.host_step.specs.Examples.{Call, new, call, answers, after, done, gives, counts, fails, fails_wide, start, holding, with_outside}
 use Rattle.host_step.specs.Tables.{look}
 use Rattle.host_imports.specs.declared.import.Import.TheVariants.{OfPrimitive, Variadic, Arg, Drop, IterFree, FreeArray}

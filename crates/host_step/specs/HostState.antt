@@ -3,7 +3,7 @@ use Rattle.std.specs.Prelude.{ℕ, List, Option}
 use Rattle.awk_values.specs.declared.fault.Fault.{Fault}
 use Rattle.awk_values.specs.declared.value.Value.{Value}
 use Rattle.sem_primitives.specs.SharedState.{Shared}
-use Rattle.host_step.specs.Tables.{Table, size}
+use Rattle.host_step.specs.Tables.{Table}
 
 -- What the numbers that the host gave out stand for: handles for values; an array's and an iterator's number for its number in the shared state,
 -- where numbers only grow. ARGV is 0 and ENVIRON is 1 here and there.
@@ -19,13 +19,3 @@ pub record HostState : Type 0 where
   pub shared : Shared
   pub arguments : List Value
   pub fault : Option Fault
-
--- how many values, arrays and iterators are alive
-abbrev pub live_values : HostState → ℕ
-live_values s = size s.names.values
-
-abbrev pub live_arrays : HostState → ℕ
-live_arrays s = size s.names.arrays
-
-abbrev pub live_iterators : HostState → ℕ
-live_iterators s = size s.names.iterators

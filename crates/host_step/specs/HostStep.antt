@@ -3,7 +3,7 @@ use Rattle.std.specs.Prelude.{ℕ, ◌-◌, ◌≡◌, nat_le, Bool, true, false
 use Rattle.awk_values.specs.declared.fault.Fault.{Fault}
 use Rattle.awk_values.specs.declared.value.Value.{Value as AnyValue}
 use Rattle.sem_primitives.specs.InTurn.{in_turn, values_taken, listed_in_turn}
-use Rattle.sem_primitives.specs.SharedState.{Shared, HostResult, gives, shared_after}
+use Rattle.sem_primitives.specs.SharedState.{HostResult, gives, shared_after}
 use Rattle.sem_primitives.specs.Sorts.{InAnswer, OrFault, Row}
 use Rattle.sem_primitives.specs.Table.{meaning, listed_answer, listed_meaning}
 use Rattle.sem_primitives.specs.Table as table
@@ -87,10 +87,7 @@ come (Ok x) = Goes x.0 x.1
 come (Err kind) = Traps kind
 
 abbrev pub carried : (i : Import) → List Word → List ℕ → HostState → Result (Names × Acts (InAnswer (import_answer i))) TrapKind
-carried i words memory s =
-    and_then (decode (spends i) memory s.names (import_arguments i) words) (λ x.
-    and_then (acts i x.0 s) (λ d.
-    Ok (x.1, d)))
+carried i words memory s = and_then (decode (spends i) memory s.names (import_arguments i) words) (λ x. and_then (acts i x.0 s) (λ d. Ok (x.1, d)))
 
 -- after a fault every import but those that let something go only refuses, whatever its words are
 abbrev pub refuses : Import → Option Fault → Bool
@@ -160,17 +157,3 @@ StepIf (Some i) before words memory answer after output = StepOf i before words 
 -- the same by the import's number
 abbrev pub HostStep : ℕ → HostState → List Word → List ℕ → HostAnswer → HostState → List Action → Type 0
 HostStep n before words memory answer after output = StepIf (import_at n) before words memory answer after output
-
--- The step as a function, where what is new gets the number q.
-
-abbrev pub settled : ℕ → (a : Answer) → HostState → Names → Acts (InAnswer a) → Result (InAnswer a) Fault → Given
-settled q a s left d (Ok x) = answered q a s left d x
-settled q a s left d (Err f) = faulted a s left d f
-
-abbrev pub step_by : ℕ → (a : Answer) → HostState → Comes (InAnswer a) → Result Given TrapKind
-step_by q a s (Traps kind) = Err kind
-step_by q a s Refuses = Ok (refused a s)
-step_by q a s (Goes left d) = Ok (settled q a s left d d.does.answer)
-
-abbrev pub step : ℕ → Import → List Word → List ℕ → HostState → Result Given TrapKind
-step q i words memory s = step_by q (import_answer i) s (comes i words memory s)

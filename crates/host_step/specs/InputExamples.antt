@@ -13,7 +13,8 @@ use Rattle.wasm_model.specs.declared.host.HostAnswer.TheVariants.{Done, Trap}
 use Rattle.wasm_store.specs.declared.trap.TrapKind.TheVariants.{BadHandle, BadPointer, BadArgument}
 use Rattle.wasm_store.specs.declared.word.Word.TheVariants.{I32, I64}
 use Rattle.world_core.specs.WorldState.{Outside, Named, absent, replaced}
-use Rattle.host_step.specs.HostState.{HostState, live_arrays}
+use Rattle.host_step.specs.HostState.{HostState}
+use Rattle.host_step.specs.Live.{live_arrays}
 use Rattle.host_step.specs.Examples.{Call, new, call, answers, after, done, gives, counts, fails, fails_wide, start, holding, with_outside, input, nowhere, file, no_job}
 use Rattle.host_step.specs.Starts.{state_at_start}
 use Rattle.host_step.specs.Tables.{look}

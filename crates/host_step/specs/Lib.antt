@@ -1,8 +1,10 @@
 pub mod Tables
+pub mod Live
 pub mod HostState
 pub mod Arguments
 pub mod Answers
 pub mod HostStep
+pub mod NumberedStep
 pub mod Starts
 pub mod Worlds
 pub mod Outcomes

@@ -15,12 +15,7 @@ first_names = record { values = []; arrays = first_arrays; iterators = [] }
 -- No value has a handle, and no iterator is there; operands and environment are ARGV and ENVIRON; no fault is kept but `TextLimit`, where a text of
 -- the job is past the limit. The standard input and what names hold are the world's.
 abbrev pub state_in : JobForm → Source → Environment → HostState
-state_in job input environment = record {
-  names = first_names;
-  shared = shared_in job input environment;
-  arguments = [];
-  fault = fault_of_job job;
-}
+state_in job input environment = record { names = first_names; shared = shared_in job input environment; arguments = []; fault = fault_of_job job }
 
 -- where nobody else changes what names hold
 abbrev pub state_at_start : JobForm → Source → Outside → HostState

@@ -1,5 +1,5 @@
 -- Finite maps from numbers, as lists of entries in the order of their numbers.
-use Rattle.std.specs.Prelude.{ℤ, not, List, length, ℕ, Option}
+use Rattle.std.specs.Prelude.{ℤ, not, List, Option}
 use Rattle.std.specs.Ordering.{eq_by_cmp, int_cmp}
 use Rattle.std.specs.FinMap.Entries.{find, put, where_key}
 
@@ -15,7 +15,3 @@ entered q x table = put int_cmp q x table
 
 abbrev pub without : {A : Type 0} → ℤ → Table A → Table A
 without q table = where_key int_cmp (λ n. not (eq_by_cmp int_cmp q n)) table
-
--- how many numbers stand for something
-abbrev pub size : {A : Type 0} → Table A → ℕ
-size table = length table

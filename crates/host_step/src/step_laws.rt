@@ -8,7 +8,8 @@ ghost use Rattle.wasm_types.specs.Syntax.{Signature};
 ghost use Rattle.world_core.specs.WorldState.{Action};
 ghost use Rattle.host_step.specs.HostState.{HostState};
 ghost use Rattle.host_step.specs.HostStep.{HostStep, StepOf};
-ghost use Rattle.host_imports.specs.Imports.{can_fault, can_trap, host_finds, host_types};
+ghost use Rattle.host_imports.specs.Imports.{host_finds, host_types};
+ghost use Rattle.host_imports.specs.FaultColumns.{can_fault, can_trap};
 ghost use Rattle.host_imports.specs.declared.import.Import.{Import};
 
 /// An import that is found by its names has the type that is told with it, and an answer is of its import's type.

@@ -7,7 +7,8 @@ use Rattle.awk_values.specs.declared.fault.Stop.TheVariants.{Fault as IsFault, N
 use Rattle.world_core.specs.declared.world.WorldFault.{WorldFault}
 use Rattle.world_core.specs.declared.world.WorldFault.TheVariants.{Failed, NoMemory}
 use Rattle.world_core.specs.WorldState.{Action, Outside, State, free, puts}
-use Rattle.world_core.specs.Traces.{Call, Other, Wrote, Targets, actions_of, targets_after, writing}
+use Rattle.world_core.specs.Traces.{Call, Other, Wrote, Targets, actions_of, writing}
+use Rattle.world_core.specs.TraceParts.{targets_after}
 use Rattle.world_core.proofs.TraceLemmas.{actions-append, targets-append, trace-append}
 use Rattle.sem_primitives.specs.Finds.{seen}
 use Rattle.sem_primitives.specs.OutputMeaning.{what_fits}

@@ -8,7 +8,8 @@ use Rattle.awk_values.specs.declared.fault.Stop.{Stop}
 use Rattle.awk_values.specs.declared.fault.Stop.TheVariants.{Fault as IsFault, NoMemory as OutOfMemory}
 use Rattle.world_core.specs.WorldState.{Action, Named, Open, Outside, State, Target, after, puts}
 use Rattle.world_core.specs.Calls.{Closed, Kind, OpensWriter, Writing}
-use Rattle.world_core.specs.Traces.{Call, Opened, Other, Targets, next_targets, targets_after}
+use Rattle.world_core.specs.Traces.{Call, Opened, Other, Targets, next_targets}
+use Rattle.world_core.specs.TraceParts.{targets_after}
 use Rattle.sem_primitives.specs.Finds.{seen}
 use Rattle.sem_primitives.specs.OutputMeaning.{opened_if, then_written, written}
 use Rattle.sem_primitives.specs.SharedState.{HostResult, Shared}

@@ -6,7 +6,8 @@ use Rattle.std.proofs.lemmas.Cmp.{nat_list_eq_equiv}
 use Rattle.world_core.specs.WorldState.{State, Source, Entry}
 use Rattle.world_core.specs.Calls.{Kind, Closed, Reading, Writing, Opens, set_kind, KeepsOthers}
 use Rattle.sem_primitives.specs.Texts.{same_text}
-use Rattle.sem_primitives.specs.InputMeaning.{reader_named, with_reader, source_of, source_if}
+use Rattle.sem_primitives.specs.InputMeaning.{reader_named, with_reader}
+use Rattle.sem_primitives.specs.InputParts.{source_of, source_if}
 use Rattle.host_streams.specs.declared.reader.Phase.TheVariants.{Open, Ended, Broken}
 use Rattle.host_streams.specs.declared.reader.Phase.{Phase}
 use Rattle.host_streams.specs.declared.reader.Reader.{Reader}

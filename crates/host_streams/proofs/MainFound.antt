@@ -8,8 +8,8 @@ use Rattle.awk_values.specs.declared.value.Value.{Value}
 use Rattle.world_core.specs.WorldState.{Entry, Outside, Source}
 use Rattle.sem_primitives.specs.Assignments.{assignment_of}
 use Rattle.sem_primitives.specs.Finds.{shut}
-use Rattle.sem_primitives.specs.InputMeaning.{Main, NotOpened, Taken, follows, found_anew, go_on, got_main, leaves, main_input, next_operand, reader_of, reader_source, record_by, stops_reading, taken, to_come}
-use Rattle.sem_primitives.specs.InputMeaning.{Failed as ReadingFailed}
+use Rattle.sem_primitives.specs.MainInput.{follows, go_on, got_main, main_input, next_operand, taken}
+use Rattle.sem_primitives.specs.InputParts.{Main, NotOpened, Taken, found_anew, leaves, reader_of, reader_source, record_by, stops_reading, to_come, Failed as ReadingFailed}
 use Rattle.sem_primitives.specs.FieldMeaning.{special_text}
 use Rattle.sem_primitives.specs.Records.{Got, Record, AtEnd, Broken, first_record, record_separator}
 use Rattle.sem_primitives.specs.declared.constants.Special.TheVariants.{Rs}

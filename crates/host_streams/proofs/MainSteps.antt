@@ -12,8 +12,8 @@ use Rattle.world_core.specs.WorldState.{Outside, Source, State}
 use Rattle.sem_primitives.specs.Assignments.{assigned, assignment_of, behind_name, begins_name, continues_name, is_name}
 use Rattle.sem_primitives.specs.FieldMeaning.{special_text}
 use Rattle.sem_primitives.specs.Finds.{finds_after, observed, seen}
-use Rattle.sem_primitives.specs.InputMeaning.{Main, Taken, main_input, go_on, got_main, leaves, next_operand, over, reach, stops_reading, follows, is_below, made, operand_text, reached, taken, file_named, file_or_assignment, opened, reader_of, record_by}
-use Rattle.sem_primitives.specs.InputMeaning.{Failed as ReadingFailed, Over, NotOpened}
+use Rattle.sem_primitives.specs.MainInput.{main_input, go_on, got_main, next_operand, over, reach, follows, made, reached, taken, file_or_assignment, opened}
+use Rattle.sem_primitives.specs.InputParts.{Main, Taken, leaves, stops_reading, is_below, operand_text, file_named, reader_of, record_by, Failed as ReadingFailed, Over, NotOpened}
 use Rattle.sem_primitives.specs.Records.{Got, Record, AtEnd, Broken, record_separator, first_record}
 use Rattle.sem_primitives.specs.SharedState.{Inner, MainInput, MainReader, Standard, File, Operands, NoFile, SomeFile, NoneLeft, ◌>>=◌}
 use Rattle.sem_primitives.specs.Texts.{is_empty}

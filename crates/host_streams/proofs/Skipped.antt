@@ -2,7 +2,9 @@
 use Rattle.std.proofs.Common.{◌≡◌, ◌≢◌, List, [], ℕ, refl, sym, ap, subst, ◌∙◌}
 use Rattle.world_core.specs.declared.world.Ending.TheVariants.{End}
 use Rattle.world_core.specs.WorldState.{Source, State}
-use Rattle.sem_primitives.specs.InputMeaning.{gives_up, next_file_row, to_come}
+use Rattle.sem_primitives.specs.InputMeaning.{gives_up}
+use Rattle.sem_primitives.specs.Rows.{next_file_row}
+use Rattle.sem_primitives.specs.InputParts.{to_come}
 use Rattle.sem_primitives.specs.SharedState.{Inner, MainInput, Standard}
 use Rattle.host_streams.specs.declared.main_input.MainInput.{MainInput as Mains}
 use Rattle.host_streams.specs.declared.main_input.Reading.{Reading}

@@ -8,7 +8,8 @@ use Rattle.world_core.specs.declared.world.WorldFault.{WorldFault}
 use Rattle.world_core.specs.declared.world.WorldFault.TheVariants.{NoMemory}
 use Rattle.world_core.specs.WorldState.{Action, Named, Open, Standard, State, Target, after, free, puts}
 use Rattle.world_core.specs.Calls.{Closed, Kind}
-use Rattle.world_core.specs.Traces.{Call, Targets, Trace, actions_of, targets_after}
+use Rattle.world_core.specs.Traces.{Call, Targets, Trace, actions_of}
+use Rattle.world_core.specs.TraceParts.{targets_after}
 use Rattle.sem_primitives.specs.OutputMeaning.{is_writing, what_fits, written}
 use Rattle.sem_primitives.specs.SharedState.{HostResult, Shared}
 use Rattle.host_streams.specs.declared.streams.NamedWriter.{NamedWriter}

@@ -8,7 +8,8 @@ use Rattle.awk_values.specs.declared.fault.Stop.TheVariants.{Fault as IsFault, N
 use Rattle.awk_values.specs.declared.value.Value.{Value}
 use Rattle.world_core.specs.WorldState.{Entry, Outside, Source}
 use Rattle.sem_primitives.specs.Finds.{shut}
-use Rattle.sem_primitives.specs.InputMeaning.{Main, NotOpened, Failed as ReadingFailed, follows, main_input, taken, to_come}
+use Rattle.sem_primitives.specs.MainInput.{follows, main_input, taken}
+use Rattle.sem_primitives.specs.InputParts.{Main, NotOpened, Failed as ReadingFailed, to_come}
 use Rattle.sem_primitives.specs.SharedState.{Inner, MainInput, MainReader, Standard, File}
 use Rattle.host_streams.specs.declared.main_input.MainInput.{MainInput as Mains}
 use Rattle.host_streams.specs.declared.main_input.MainNext.{MainNext}

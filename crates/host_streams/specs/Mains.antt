@@ -10,7 +10,9 @@ use Rattle.world_core.specs.WorldState.{Outside, Source, State}
 use Rattle.world_core.specs.Calls.{Kind, Closed, Reading as IsReading}
 use Rattle.sem_primitives.specs.Assignments.{assigned, assignment_of, begins_name}
 use Rattle.sem_primitives.specs.FieldMeaning.{special_text}
-use Rattle.sem_primitives.specs.InputMeaning.{Main, Taken, Over, NotOpened, Failed as ReadingFailed, main_input, is_below, made, next_file_row, operand_text, reach, taken}
+use Rattle.sem_primitives.specs.Rows.{next_file_row}
+use Rattle.sem_primitives.specs.MainInput.{main_input, made, reach, taken}
+use Rattle.sem_primitives.specs.InputParts.{Main, Taken, Over, NotOpened, Failed as ReadingFailed, is_below, operand_text}
 use Rattle.sem_primitives.specs.Limits.{most_operands}
 use Rattle.sem_primitives.specs.Records.{record_separator}
 use Rattle.sem_primitives.specs.SharedState.{Inner, MainInput, MainReader, Standard, File, Operands, NoFile, SomeFile, NoneLeft, ◌>>=◌, with_special}

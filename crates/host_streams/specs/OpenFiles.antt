@@ -7,7 +7,8 @@ use Rattle.world_core.specs.WorldState.{State, Source, Named, Entry}
 use Rattle.world_core.specs.Calls.{Kind, Closed, Reading, Writing}
 use Rattle.sem_primitives.specs.Limits.{most_streams}
 use Rattle.sem_primitives.specs.Texts.{same_text}
-use Rattle.sem_primitives.specs.InputMeaning.{reader_named, with_reader, source_of}
+use Rattle.sem_primitives.specs.InputMeaning.{reader_named, with_reader}
+use Rattle.sem_primitives.specs.InputParts.{source_of}
 use Rattle.sem_primitives.specs.OutputMeaning.{is_writing}
 use Rattle.host_streams.specs.declared.reader.Phase.{Phase}
 use Rattle.host_streams.specs.declared.reader.Phase.TheVariants.{Open, Broken}

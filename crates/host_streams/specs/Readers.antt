@@ -7,7 +7,7 @@ use Rattle.world_core.specs.declared.world.Ending.TheVariants.{End as IsEnd, Fai
 use Rattle.world_core.specs.declared.world.WorldFault.{WorldFault}
 use Rattle.world_core.specs.declared.world.WorldFault.TheVariants.{Failed as DeviceFailed, NoMemory}
 use Rattle.world_core.specs.WorldState.{State, Source, Standard, absent}
-use Rattle.sem_primitives.specs.InputMeaning.{to_come}
+use Rattle.sem_primitives.specs.InputParts.{to_come}
 use Rattle.sem_primitives.specs.Limits.{most_text}
 use Rattle.sem_primitives.specs.Records.{first_record}
 use Rattle.sem_primitives.specs.Records.{Record as GotRecord, AtEnd as GotEnd, Broken as GotFailure}

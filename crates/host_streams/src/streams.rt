@@ -2,7 +2,7 @@
 ghost use Rattle.std.specs.Prelude.{◌≡◌, ℕ, [], None, Some, Ok, IfOk, IfSome, false, map, true};
 ghost use Rattle.world_core.specs.WorldState.{Named, State};
 ghost use Rattle.world_core.specs.Calls.{Kind};
-ghost use Rattle.sem_primitives.specs.InputMeaning.{source_of};
+ghost use Rattle.sem_primitives.specs.InputParts.{source_of};
 ghost use Rattle.sem_primitives.specs.OutputMeaning.{is_writing};
 ghost use Rattle.sem_primitives.specs.Records.{record_separator};
 ghost use Rattle.host_streams.specs.declared.reader.Phase.TheVariants.{Broken, Open};

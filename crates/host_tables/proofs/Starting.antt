@@ -5,7 +5,8 @@ use Rattle.std.specs.Cmp.{int_cmp_total}
 use Rattle.std.specs.FinMap as map
 use Rattle.std.specs.FinMap.{FinMap, int_cmp-IsAntisymmetric}
 use Rattle.std.proofs.lemmas.List.{nil_from_length}
-use Rattle.sem_primitives.specs.Jobs.{JobForm, arguments_from, environment_in, fault_of_job, shared_at_start}
+use Rattle.sem_primitives.specs.Jobs.{JobForm, arguments_from, environment_in, fault_of_job}
+use Rattle.sem_primitives.specs.ClosedJobs.{shared_at_start}
 use Rattle.sem_primitives.specs.SharedState.{Pairs, specials_at_start}
 use Rattle.sem_primitives.specs.declared.constants.Special.{Special}
 use Rattle.host_step.specs.Starts.{first_arrays, state_at_start}

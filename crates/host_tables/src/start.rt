@@ -1,7 +1,8 @@
 //! All tables of the host but those of open files and of the main input, and what they are at the start of a job.
 ghost use Rattle.std.specs.Prelude.{◌≡◌, ◌∷◌, [], IfOk, None, OnOk, codes, map, pos, true};
 ghost use Rattle.std.specs.FinMap as maps;
-ghost use Rattle.sem_primitives.specs.Jobs.{arguments_from, environment_in, shared_at_start};
+ghost use Rattle.sem_primitives.specs.Jobs.{arguments_from, environment_in};
+ghost use Rattle.sem_primitives.specs.ClosedJobs.{shared_at_start};
 ghost use Rattle.host_values.specs.Forms.{Coming, Stands};
 ghost use Rattle.host_texts.specs.NameForms.{pair_of};
 ghost use Rattle.host_step.specs.Starts.{state_at_start};

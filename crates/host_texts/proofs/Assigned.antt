@@ -7,7 +7,7 @@ use Rattle.awk_values.specs.declared.fault.Stop.{Stop}
 use Rattle.awk_values.specs.declared.fault.Stop.TheVariants as stops
 use Rattle.sem_primitives.specs.Assignments.{assigned, assigned_by, made_here as here, named, takes_none}
 use Rattle.sem_primitives.specs.Constants.{specials}
-use Rattle.sem_primitives.specs.InputMeaning.{start_by, start_from}
+use Rattle.sem_primitives.specs.MainInput.{start_by, start_from}
 use Rattle.sem_primitives.specs.SharedState.{Inner, ◌>>=◌}
 use Rattle.sem_primitives.specs.declared.constants.Special.{Special}
 use Rattle.sem_primitives.specs.declared.answers.AssignAnswer.{AssignAnswer}

@@ -5,7 +5,7 @@ use Rattle.std.specs.FinMap as map
 use Rattle.awk_values.specs.declared.fault.Fault.{Fault}
 use Rattle.awk_values.specs.declared.value.Value.{Value}
 use Rattle.sem_primitives.specs.InTurn.{listed_in_turn}
-use Rattle.sem_primitives.specs.OutputMeaning.{sprintf_row}
+use Rattle.sem_primitives.specs.Rows.{sprintf_row}
 use Rattle.sem_primitives.specs.Table.{listed_meaning}
 use Rattle.sem_primitives.specs.declared.sorts.Answer.{Answer}
 use Rattle.sem_primitives.specs.declared.sorts.Answer.TheVariants as answer

@@ -4,7 +4,8 @@ use Rattle.std.specs.FinMap as map
 use Rattle.awk_values.specs.declared.fault.Fault.{Fault}
 use Rattle.awk_values.specs.declared.value.Value.{Value}
 use Rattle.sem_primitives.specs.Assignments.{declared}
-use Rattle.sem_primitives.specs.InputMeaning.{name_of as number_of, start_assign_row, value_of}
+use Rattle.sem_primitives.specs.InputMeaning.{name_of as number_of, value_of}
+use Rattle.sem_primitives.specs.MainInput.{start_assign_row}
 use Rattle.sem_primitives.specs.SharedState.{Inner, settles}
 use Rattle.sem_primitives.specs.TextMeaning.{given}
 use Rattle.sem_primitives.specs.declared.answers.AssignAnswer.{AssignAnswer}

@@ -13,7 +13,8 @@ use Rattle.sem_primitives.specs.Eres.{expression_of}
 use Rattle.sem_primitives.proofs.Firsts.{has_match_is}
 use Rattle.sem_primitives.specs.Numbers.{Number}
 use Rattle.sem_primitives.specs.SharedState.{Inner, ◌>>=◌}
-use Rattle.sem_primitives.specs.TextMeaning.{match_row, match_start, matches_row, places_of, replaced, substitute_row, with_match}
+use Rattle.sem_primitives.specs.TextMeaning.{match_row, match_start, places_of, replaced, substitute_row, with_match}
+use Rattle.sem_primitives.specs.Rows.{matches_row}
 use Rattle.sem_primitives.specs.Texts.{counted, limited}
 use Rattle.host_bytes.specs.Outcomes.{IsStopOf}
 use Rattle.sem_primitives.specs.FieldMeaning.{done}

@@ -4,13 +4,13 @@ use Rattle.std.specs.Prelude.{is_some}
 use Rattle.awk_values.specs.declared.fault.Fault.{Fault}
 use Rattle.awk_values.specs.Values.{text_of_value}
 use Rattle.awk_values.specs.declared.value.Value.{Value as AnyValue}
-use Rattle.sem_primitives.specs.ArrayMeaning.{join_row}
-use Rattle.sem_primitives.specs.FieldMeaning.{done, field_number, field_row, set_field_row, set_special_row, with_field}
+use Rattle.sem_primitives.specs.Rows.{join_row, field_row, set_field_row, set_special_row, index_row, length_row, lower_row, matches_row, substituted_row, upper_row}
+use Rattle.sem_primitives.specs.FieldMeaning.{done, field_number, with_field}
 use Rattle.sem_primitives.specs.Numbers.{Number}
 use Rattle.sem_primitives.specs.SharedState.{Inner, ◌>>=◌, settles, special_of}
 use Rattle.sem_primitives.specs.Sorts.{InAnswer}
 use Rattle.sem_primitives.specs.Table.{answer_of}
-use Rattle.sem_primitives.specs.TextMeaning.{index_row, length_row, lower_row, match_row, matches_row, substitute_row, substituted_row, upper_row}
+use Rattle.sem_primitives.specs.TextMeaning.{match_row, substitute_row}
 use Rattle.sem_primitives.specs.declared.sorts.Answer.{Answer}
 use Rattle.sem_primitives.specs.declared.sorts.Answer.TheVariants as answer
 use Rattle.sem_primitives.specs.declared.sorts.Argument.TheVariants as argument

@@ -3,11 +3,11 @@ use Rattle.std.specs.Prelude.{ℕ, List, Some, None, Result, Ok, Err, is_some}
 use Rattle.awk_values.specs.declared.fault.Fault.{Fault}
 use Rattle.awk_values.specs.Values.{text_of_value}
 use Rattle.awk_values.specs.declared.value.Value.TheVariants as value
-use Rattle.sem_primitives.specs.ArrayMeaning.{join_row}
-use Rattle.sem_primitives.specs.FieldMeaning.{done, set_special_row}
+use Rattle.sem_primitives.specs.Rows.{join_row, set_special_row, index_row, length_row, lower_row, matches_row, substituted_row, upper_row}
+use Rattle.sem_primitives.specs.FieldMeaning.{done}
 use Rattle.sem_primitives.specs.Numbers.{Number}
 use Rattle.sem_primitives.specs.SharedState.{Inner, special_of}
-use Rattle.sem_primitives.specs.TextMeaning.{index_row, length_row, lower_row, match_row, matches_row, substitute_row, substituted_row, upper_row}
+use Rattle.sem_primitives.specs.TextMeaning.{match_row, substitute_row}
 use Rattle.sem_primitives.specs.declared.sorts.Constant.TheVariants as constant
 use Rattle.wasm_store.specs.declared.word.Word.{Word}
 use Rattle.host_step.specs.Arguments.{no_more}

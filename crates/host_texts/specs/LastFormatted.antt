@@ -2,7 +2,7 @@
 use Rattle.std.specs.Prelude.{◌≡◌, ◌&&◌, ℕ, nat_le, List, length, Result, Ok, Err}
 use Rattle.awk_values.specs.declared.fault.Fault.{Fault}
 use Rattle.sem_primitives.specs.InTurn.{listed_in_turn}
-use Rattle.sem_primitives.specs.OutputMeaning.{sprintf_row}
+use Rattle.sem_primitives.specs.Rows.{sprintf_row}
 use Rattle.sem_primitives.specs.declared.sorts.Constant.TheVariants as constant
 use Rattle.sem_primitives.specs.declared.table.Listed.TheVariants.{Sprintf}
 use Rattle.wasm_store.specs.declared.word.Word.{Word}

@@ -2,7 +2,7 @@
 use Rattle.std.specs.Prelude.{ℕ, List, [], ◌∷◌, codes, slice_set}
 use Rattle.awk_values.specs.declared.value.Value.{Value}
 use Rattle.awk_values.specs.declared.value.Value.TheVariants.{Text}
-use Rattle.sem_primitives.specs.Constants.{special_number}
+use Rattle.sem_primitives.specs.ConstantNumbers.{special_number}
 use Rattle.sem_primitives.specs.declared.constants.Special.{Special}
 use Rattle.sem_primitives.specs.declared.constants.Special.TheVariants.{Convfmt, Fs, Ofmt, Ofs, Ors, Rs, Subsep}
 

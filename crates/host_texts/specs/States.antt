@@ -2,7 +2,7 @@
 use Rattle.std.specs.Prelude.{List, [], get_or}
 use Rattle.awk_values.specs.declared.value.Value.{Value}
 use Rattle.awk_values.specs.declared.value.Value.TheVariants.{Uninit}
-use Rattle.sem_primitives.specs.Constants.{special_number}
+use Rattle.sem_primitives.specs.ConstantNumbers.{special_number}
 use Rattle.sem_primitives.specs.SharedState.{Inner}
 use Rattle.sem_primitives.specs.declared.constants.Special.{Special}
 use Rattle.host_step.specs.HostState.{HostState}

@@ -1,6 +1,6 @@
 //! What the words of an announcement say.
 ghost use Rattle.std.specs.Prelude.{◌≡◌};
-ghost use Rattle.sem_primitives.specs.Constants.{kind_at};
+ghost use Rattle.sem_primitives.specs.ConstantPlaces.{kind_at};
 ghost use Rattle.sem_primitives.specs.declared.sorts.Constant.{Constant};
 ghost use Rattle.host_texts.specs.NameWords.{declare_front, lent_declare};
 ghost use Rattle.host_step.specs.Arguments.{constant_front};

@@ -5,7 +5,7 @@ ghost use Rattle.awk_values.specs.declared.fault.Stop.TheVariants as stops;
 ghost use Rattle.ere_syntax.specs.Tree.{Tree};
 ghost use Rattle.sem_primitives.specs.FirstMatch.{first_match};
 ghost use Rattle.sem_primitives.specs.Eres.{expression_of};
-ghost use Rattle.sem_primitives.specs.TextMeaning.{matches_row};
+ghost use Rattle.sem_primitives.specs.Rows.{matches_row};
 ghost use Rattle.host_step.specs.HostState.{HostState};
 ghost use Rattle.host_bytes.specs.Outcomes.{IsStopOf};
 ghost use Rattle.host_texts.specs.Evaluations.{matches_evaluation, replied};

@@ -2,7 +2,7 @@
 ghost use Rattle.std.specs.Prelude.{◌≡◌, ◌≤◌, ◌&&◌, IfErr, IfOk, List, ℕ, None, length, nat_le};
 ghost use Rattle.std.specs.FinMap as map;
 ghost use Rattle.sem_primitives.specs.InTurn.{listed_in_turn};
-ghost use Rattle.sem_primitives.specs.OutputMeaning.{sprintf_row};
+ghost use Rattle.sem_primitives.specs.Rows.{sprintf_row};
 ghost use Rattle.sem_primitives.specs.declared.sorts.Constant.{Constant};
 ghost use Rattle.sem_primitives.specs.declared.table.Listed.{Listed as AnyListed};
 ghost use Rattle.host_step.specs.Arguments.{constant_front};

@@ -1,7 +1,7 @@
 //! An assignment of the command line is made.
 ghost use Rattle.std.specs.Prelude.{◌≡◌, IfErr, IfOk, Ok};
 ghost use Rattle.sem_primitives.specs.Assignments.{assigned, assigned_by};
-ghost use Rattle.sem_primitives.specs.InputMeaning.{start_assign_row};
+ghost use Rattle.sem_primitives.specs.MainInput.{start_assign_row};
 ghost use Rattle.sem_primitives.specs.SharedState.{Inner};
 ghost use Rattle.host_bytes.specs.Outcomes.{IsStopOf};
 ghost use Rattle.host_texts.specs.NameForms.{PendsBy, with_all, with_pending};

@@ -1,7 +1,8 @@
 //! Primitives on special variables, the record and its fields.
 ghost use Rattle.std.specs.Prelude.{◌≡◌, ◌≢◌, pos, IfErr, IfOk, IfSome, OnErr, OnOk};
 ghost use Rattle.awk_values.specs.Values.{text_of_value};
-ghost use Rattle.sem_primitives.specs.FieldMeaning.{done, set_special, set_special_row, with_record};
+ghost use Rattle.sem_primitives.specs.FieldMeaning.{done, set_special, with_record};
+ghost use Rattle.sem_primitives.specs.Rows.{set_special_row};
 ghost use Rattle.sem_primitives.specs.SharedState.{Inner, special_of};
 ghost use Rattle.host_step.specs.HostState.{HostState};
 ghost use Rattle.host_bytes.specs.Outcomes.{IsStopOf};

@@ -1,6 +1,6 @@
 //! The special variables.
 ghost use Rattle.std.specs.Prelude.{◌≡◌, ◌<◌, IfOk, OnOk, slice_set};
-ghost use Rattle.sem_primitives.specs.Constants.{special_number};
+ghost use Rattle.sem_primitives.specs.ConstantNumbers.{special_number};
 ghost use Rattle.sem_primitives.specs.SharedState.{specials_at_start};
 ghost use Rattle.sem_primitives.specs.declared.constants.Special.{Special as AnySpecial};
 ghost use Rattle.host_texts.specs.Starts.{with_blanks, with_ends, with_formats, with_text};

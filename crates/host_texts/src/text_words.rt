@@ -1,7 +1,7 @@
 //! What the words of a call say, beside what `host_values` reads.
 ghost use Rattle.std.specs.Prelude.{◌≡◌};
 ghost use Rattle.std.specs.FinMap as map;
-ghost use Rattle.sem_primitives.specs.Constants.{flag_at};
+ghost use Rattle.sem_primitives.specs.ConstantPlaces.{flag_at};
 ghost use Rattle.sem_primitives.specs.declared.sorts.Constant.{Constant};
 ghost use Rattle.host_step.specs.Arguments.{constant_front};
 ghost use Rattle.host_values.specs.Evaluations.{Evaluation, Values};

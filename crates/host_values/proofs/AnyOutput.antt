@@ -3,9 +3,9 @@ use Rattle.std.proofs.Common.{◌≡◌, ℕ, Bool, true, false, ◌&&◌, nat_l
 use Rattle.awk_values.specs.declared.fault.Fault.{Fault}
 use Rattle.awk_values.specs.declared.value.Value.{Value}
 use Rattle.sem_primitives.specs.InTurn.{in_turn, listed_in_turn, values_taken}
-use Rattle.sem_primitives.specs.FieldMeaning.{set_field_row, set_special_row}
+use Rattle.sem_primitives.specs.Rows.{set_field_row, set_special_row, getline_file_row, getline_line_file_row, getline_line_row, getline_row, next_main_row}
 use Rattle.sem_primitives.specs.Finds.{seen}
-use Rattle.sem_primitives.specs.InputMeaning.{getline_file_row, getline_line_file_row, getline_line_row, getline_row, next_main_row, start_assign_row}
+use Rattle.sem_primitives.specs.MainInput.{start_assign_row}
 use Rattle.sem_primitives.specs.OutputMeaning.{file_name, formatted_values, has_room, is_writing, opened_if, operands_of, printed, printf_by, put_text, written_by}
 use Rattle.sem_primitives.specs.TextMeaning.{match_row, split_row, substitute_row}
 use Rattle.sem_primitives.specs.SharedState.{HostResult, Inner, Shared, settles}

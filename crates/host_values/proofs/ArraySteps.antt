@@ -10,7 +10,7 @@ use Rattle.awk_values.specs.Values.{text_of_value}
 use Rattle.awk_values.specs.declared.value.Value.{Value}
 use Rattle.awk_values.specs.declared.value.Value.TheVariants.{Uninit}
 use Rattle.sem_primitives.specs.ArrayMeaning.{array, found, stored}
-use Rattle.sem_primitives.specs.Constants.{flag_number}
+use Rattle.sem_primitives.specs.ConstantNumbers.{flag_number}
 use Rattle.sem_primitives.specs.SharedState.{Inner, Pairs}
 use Rattle.sem_primitives.specs.Sorts.{InAnswer, Row}
 use Rattle.sem_primitives.specs.declared.table.Primitive.TheVariants as row

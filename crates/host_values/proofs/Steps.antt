@@ -5,7 +5,7 @@ use Rattle.std.specs.Int.{w64, cast_unsigned}
 use Rattle.std.specs.FinMap as map
 use Rattle.awk_values.specs.declared.fault.Fault.{Fault}
 use Rattle.awk_values.specs.declared.value.Value.{Value as AnyValue}
-use Rattle.sem_primitives.specs.Constants.{flag_number}
+use Rattle.sem_primitives.specs.ConstantNumbers.{flag_number}
 use Rattle.sem_primitives.specs.SharedState.{Inner, Shared}
 use Rattle.sem_primitives.specs.Sorts.{InAnswer}
 use Rattle.sem_primitives.specs.declared.sorts.Answer.{Answer}

@@ -1,7 +1,7 @@
 -- A host in an environment that others change too: each time that something is opened, read or written it finds the next of a list.
 use Rattle.std.specs.Prelude.{◌≡◌, List, [], ◌++◌, Option, Some, None}
 use Rattle.awk_values.specs.declared.fault.Fault.{Fault}
-use Rattle.sem_primitives.specs.InputMeaning.{to_come}
+use Rattle.sem_primitives.specs.InputParts.{to_come}
 use Rattle.sem_primitives.specs.Jobs.{JobForm, Opened}
 use Rattle.world_core.specs.WorldState.{Action, Entry, Outside, Source, absent}
 use Rattle.host_step.specs.Starts.{state_at_start, state_in}

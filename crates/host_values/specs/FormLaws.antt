@@ -2,7 +2,8 @@
 use Rattle.std.specs.Prelude.{ℕ, List, [], Option, Some, None}
 use Rattle.std.proofs.Common.{refl, sym, subst, append-nil}
 use Rattle.wasm_types.specs.Syntax.{Signature}
-use Rattle.wasm_model.specs.Hosts.{GoesOn, Typed}
+use Rattle.wasm_model.specs.Hosts.{Typed}
+use Rattle.wasm_model.specs.HostAnswers.{GoesOn}
 use Rattle.wasm_model.specs.declared.host.HostAnswer.{HostAnswer}
 use Rattle.wasm_model.specs.declared.host.HostAnswer.TheVariants as told
 use Rattle.wasm_store.specs.Memories.{MemoryForm}

@@ -1,6 +1,7 @@
 //! What the words of a call say: each function takes one argument from their front, and gives the words behind it.
 ghost use Rattle.std.specs.Prelude.{◌≡◌, ◌<◌, IfOk, option_copied, slice_get, unsigned_abs};
-ghost use Rattle.sem_primitives.specs.Constants.{comparison_at, fault_at, faults};
+ghost use Rattle.sem_primitives.specs.Constants.{fault_at, faults};
+ghost use Rattle.sem_primitives.specs.ConstantPlaces.{comparison_at};
 ghost use Rattle.sem_primitives.specs.declared.sorts.Constant.{Constant};
 ghost use Rattle.std.specs.FinMap as map;
 ghost use Rattle.awk_text.specs.NumberText.{InRange};

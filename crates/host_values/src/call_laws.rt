@@ -1,7 +1,8 @@
 //! Laws of the definitions, each the contract of a function that does nothing.
 ghost use Rattle.std.specs.Prelude.{◌≡◌, false, [], List, ℕ, None, Ok, Option, Result, Some};
 ghost use Rattle.awk_values.specs.declared.fault.Fault.{Fault};
-ghost use Rattle.wasm_model.specs.Hosts.{GoesOn, Typed};
+ghost use Rattle.wasm_model.specs.Hosts.{Typed};
+ghost use Rattle.wasm_model.specs.HostAnswers.{GoesOn};
 ghost use Rattle.wasm_model.specs.declared.host.HostAnswer.{HostAnswer};
 ghost use Rattle.wasm_store.specs.Memories.{MemoryForm};
 ghost use Rattle.wasm_store.specs.declared.trap.TrapKind.{TrapKind};

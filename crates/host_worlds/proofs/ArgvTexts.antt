@@ -2,7 +2,7 @@
 use Rattle.std.proofs.Common.{◌≡◌, ℕ, pos, List, Option, sym, ap, ◌∙◌}
 use Rattle.std.specs.Prelude.{decimal}
 use Rattle.awk_values.specs.declared.value.Value.{Value}
-use Rattle.sem_primitives.specs.InputMeaning.{text_or_none}
+use Rattle.sem_primitives.specs.InputParts.{text_or_none}
 use Rattle.host_arrays.specs.Pairs.{get_pair, pairs_at}
 use Rattle.host_values.specs.Forms.{Arrays}
 use Rattle.host_values.proofs.Elements.{element-get_pair}

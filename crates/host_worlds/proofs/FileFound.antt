@@ -8,7 +8,8 @@ use Rattle.world_core.specs.WorldState.{Entry, Named, Outside, Source}
 use Rattle.world_core.specs.Calls.{Kind, Reading}
 use Rattle.sem_primitives.specs.FieldMeaning.{special_text}
 use Rattle.sem_primitives.specs.Finds.{observed, seen, shut}
-use Rattle.sem_primitives.specs.InputMeaning.{got_file, open_or_read, opened_file, read_file, reader_named, record_by, source_of, to_come, with_reader}
+use Rattle.sem_primitives.specs.InputMeaning.{got_file, open_or_read, opened_file, read_file, reader_named, with_reader}
+use Rattle.sem_primitives.specs.InputParts.{record_by, source_of, to_come}
 use Rattle.sem_primitives.specs.OutputMeaning.{has_room}
 use Rattle.sem_primitives.specs.Records.{Got, first_record, record_separator}
 use Rattle.sem_primitives.specs.SharedState.{Inner, ◌>>=◌}

@@ -11,7 +11,8 @@ use Rattle.awk_values.specs.declared.fault.Stop.{Stop}
 use Rattle.awk_values.specs.declared.fault.Stop.TheVariants.{Fault as IsFault, NoMemory}
 use Rattle.world_core.specs.WorldState.{Entry, Outside, Named, Source, State}
 use Rattle.sem_primitives.specs.FieldMeaning.{special_text}
-use Rattle.sem_primitives.specs.InputMeaning.{getline_file_by, got_file, open_or_read, opened_file, read_file, reader_named, source_of, to_come, with_reader}
+use Rattle.sem_primitives.specs.InputMeaning.{getline_file_by, got_file, open_or_read, opened_file, read_file, reader_named, with_reader}
+use Rattle.sem_primitives.specs.InputParts.{source_of, to_come}
 use Rattle.sem_primitives.specs.OutputMeaning.{has_room}
 use Rattle.sem_primitives.specs.Records.{Got, first_record, record_separator}
 use Rattle.sem_primitives.specs.SharedState.{Inner, ◌>>=◌}

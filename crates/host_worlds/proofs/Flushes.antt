@@ -3,7 +3,8 @@ use Rattle.std.proofs.Common.{◌≡◌, ℕ, ℤ, Bool, List, Some, None, Ok, E
 use Rattle.std.specs.FinMap as table
 use Rattle.awk_values.specs.Values.{text_of_value}
 use Rattle.awk_values.specs.declared.value.Value.{Value}
-use Rattle.sem_primitives.specs.OutputMeaning.{all_out, flush_row}
+use Rattle.sem_primitives.specs.OutputMeaning.{all_out}
+use Rattle.sem_primitives.specs.Rows.{flush_row}
 use Rattle.sem_primitives.specs.declared.table.Primitive.TheVariants as row
 use Rattle.wasm_model.specs.declared.host.HostAnswer.TheVariants as told
 use Rattle.wasm_store.specs.declared.trap.TrapKind.{TrapKind}

@@ -4,7 +4,9 @@ use Rattle.awk_values.specs.declared.fault.Fault.{Fault}
 use Rattle.awk_values.specs.declared.fault.Stop.{Stop}
 use Rattle.awk_values.specs.declared.fault.Stop.TheVariants.{Fault as IsFault, NoMemory}
 use Rattle.world_core.specs.WorldState.{Outside}
-use Rattle.sem_primitives.specs.InputMeaning.{Taken, counted_record, getline_by, main_input}
+use Rattle.sem_primitives.specs.InputMeaning.{counted_record, getline_by}
+use Rattle.sem_primitives.specs.MainInput.{main_input}
+use Rattle.sem_primitives.specs.InputParts.{Taken}
 use Rattle.sem_primitives.specs.SharedState.{Inner, ◌>>=◌}
 use Rattle.sem_primitives.specs.declared.answers.InputAnswer.{InputAnswer}
 use Rattle.sem_primitives.specs.declared.answers.InputAnswer.TheVariants.{Read}

@@ -7,7 +7,7 @@ use Rattle.awk_values.specs.declared.fault.Stop.{Stop}
 use Rattle.awk_values.specs.declared.fault.Stop.TheVariants.{Fault as IsFault, NoMemory}
 use Rattle.awk_values.specs.declared.fault.Fault.{Fault}
 use Rattle.sem_primitives.specs.ArrayMeaning.{element}
-use Rattle.sem_primitives.specs.InputMeaning.{text_or_none}
+use Rattle.sem_primitives.specs.InputParts.{text_or_none}
 use Rattle.sem_primitives.specs.SharedState.{Inner, Pairs, settles}
 use Rattle.sem_primitives.specs.declared.answers.InputAnswer.{InputAnswer}
 use Rattle.wasm_model.specs.declared.host.HostAnswer.TheVariants as told

@@ -3,7 +3,8 @@ use Rattle.std.proofs.Common.{◌≡◌, ℕ, List, ◌++◌, append_assoc, Opti
 use Rattle.awk_values.specs.declared.fault.Fault.{Fault}
 use Rattle.awk_values.specs.declared.fault.Stop.{Stop}
 use Rattle.world_core.specs.WorldState.{Entry, Outside}
-use Rattle.sem_primitives.specs.InputMeaning.{Main, main_input}
+use Rattle.sem_primitives.specs.MainInput.{main_input}
+use Rattle.sem_primitives.specs.InputParts.{Main}
 use Rattle.sem_primitives.specs.SharedState.{Inner}
 use Rattle.host_texts.specs.declared.texts.Texts.{Texts}
 use Rattle.host_worlds.specs.Finds.{FindsGiven, FindsTurn}

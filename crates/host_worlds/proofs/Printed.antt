@@ -2,7 +2,8 @@
 use Rattle.std.proofs.Common.{◌≡◌, ℕ, List, [], Some, None, Result, Ok, Err, refl, sym, ap, subst}
 use Rattle.awk_values.specs.declared.fault.Stop.{Stop}
 use Rattle.awk_values.specs.declared.value.Value.{Value}
-use Rattle.sem_primitives.specs.OutputMeaning.{file_name, formatted_values, operands_of, print_row, printed, printf_row}
+use Rattle.sem_primitives.specs.OutputMeaning.{file_name, formatted_values, operands_of, printed}
+use Rattle.sem_primitives.specs.Rows.{print_row, printf_row}
 use Rattle.sem_primitives.specs.SharedState.{Shared}
 use Rattle.sem_primitives.specs.declared.constants.Destination.{Destination}
 use Rattle.wasm_model.specs.declared.host.HostAnswer.TheVariants as told

@@ -1,7 +1,7 @@
 -- Giving up what the main input reads is a call.
 use Rattle.std.proofs.Common.{◌≡◌, ℕ, false, List, [], ◌++◌, Some, None, Result, Ok, Err, refl, sym, ap, subst, ◌∙◌}
 use Rattle.std.proofs.lemmas.List.{append-nil}
-use Rattle.sem_primitives.specs.InputMeaning.{next_file_row}
+use Rattle.sem_primitives.specs.Rows.{next_file_row}
 use Rattle.sem_primitives.specs.SharedState.{Inner, changes}
 use Rattle.sem_primitives.specs.declared.table.Primitive.TheVariants as row
 use Rattle.wasm_model.specs.declared.host.HostAnswer.TheVariants as told

@@ -2,9 +2,9 @@
 use Rattle.std.proofs.Common.{◌≡◌, ℕ, Bool, true, false, cond, List, [], ◌∷◌, Option, Some, None, Result, Ok, Err, refl, sym, ap, subst, ◌∙◌}
 use Rattle.awk_values.specs.declared.fault.Fault.{Fault}
 use Rattle.awk_values.specs.declared.value.Value.{Value}
-use Rattle.sem_primitives.specs.Constants.{destination_at}
+use Rattle.sem_primitives.specs.ConstantPlaces.{destination_at}
 use Rattle.sem_primitives.specs.InTurn.{with_name}
-use Rattle.sem_primitives.specs.OutputMeaning.{print_row, printf_row}
+use Rattle.sem_primitives.specs.Rows.{print_row, printf_row}
 use Rattle.sem_primitives.specs.SharedState.{HostResult, shared_after}
 use Rattle.sem_primitives.specs.Sorts.{InAnswer, Row}
 use Rattle.sem_primitives.specs.declared.constants.Destination.{Destination}

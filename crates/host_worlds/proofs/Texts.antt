@@ -4,7 +4,8 @@ use Rattle.awk_values.specs.declared.fault.Fault.{Fault}
 use Rattle.awk_values.specs.declared.fault.Stop.{Stop}
 use Rattle.awk_values.specs.declared.fault.Stop.TheVariants as stop
 use Rattle.awk_values.specs.declared.value.Value.{Value}
-use Rattle.sem_primitives.specs.OutputMeaning.{file_name, formatted_values, operands_of, print_row, printed, printf_by, printf_row, put_text}
+use Rattle.sem_primitives.specs.OutputMeaning.{file_name, formatted_values, operands_of, printed, printf_by, put_text}
+use Rattle.sem_primitives.specs.Rows.{print_row, printf_row}
 use Rattle.sem_primitives.specs.SharedState.{Inner, Shared}
 use Rattle.sem_primitives.specs.declared.constants.Destination.{Destination}
 use Rattle.world_core.specs.Traces.{Call}

@@ -8,8 +8,8 @@ use Rattle.awk_values.specs.declared.fault.Stop.{Stop}
 use Rattle.awk_values.specs.declared.fault.Stop.TheVariants.{Fault as IsFault, NoMemory}
 use Rattle.world_core.specs.WorldState.{Outside}
 use Rattle.sem_primitives.specs.Assignments.{assigned}
-use Rattle.sem_primitives.specs.InputMeaning.{Main, go_on, made, main_input, next_operand, reach, reach_by}
-use Rattle.sem_primitives.specs.InputMeaning.{Pending as IsPending}
+use Rattle.sem_primitives.specs.MainInput.{go_on, made, main_input, next_operand, reach, reach_by}
+use Rattle.sem_primitives.specs.InputParts.{Main, Pending as IsPending}
 use Rattle.sem_primitives.specs.SharedState.{Inner, ◌>>=◌}
 use Rattle.host_bytes.specs.Outcomes.{IsStopOf}
 use Rattle.host_streams.specs.MainFinds.{FaultFound, StepFound, as_step, reading_found}

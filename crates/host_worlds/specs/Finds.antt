@@ -5,7 +5,8 @@ use Rattle.awk_values.specs.declared.fault.Fault.{Fault}
 use Rattle.awk_values.specs.declared.fault.Stop.{Stop}
 use Rattle.awk_values.specs.declared.value.Value.{Value}
 use Rattle.world_core.specs.WorldState.{Entry, Outside}
-use Rattle.sem_primitives.specs.InputMeaning.{getline_file_by, main_input}
+use Rattle.sem_primitives.specs.InputMeaning.{getline_file_by}
+use Rattle.sem_primitives.specs.MainInput.{main_input}
 use Rattle.sem_primitives.specs.SharedState.{Inner}
 use Rattle.sem_primitives.specs.declared.answers.InputAnswer.{InputAnswer}
 use Rattle.host_streams.specs.MainFinds.{StepFound, as_step}

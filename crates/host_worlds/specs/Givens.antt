@@ -5,8 +5,11 @@ use Rattle.awk_values.specs.declared.fault.Fault.TheVariants.{OpenInput, ReadFai
 use Rattle.awk_values.specs.declared.fault.Stop.{Stop}
 use Rattle.awk_values.specs.declared.fault.Stop.TheVariants.{Fault as IsFault, NoMemory}
 use Rattle.world_core.specs.WorldState.{Outside}
-use Rattle.sem_primitives.specs.InputMeaning.{Main, as_line, as_record, getline_line_file_row, getline_file_row, getline_line_row, getline_of, getline_row, main_input, next_main_row, next_of, operand_text}
-use Rattle.sem_primitives.specs.InputMeaning as definition
+use Rattle.sem_primitives.specs.InputMeaning.{as_line, as_record, getline_of, next_of}
+use Rattle.sem_primitives.specs.Rows.{getline_line_file_row, getline_file_row, getline_line_row, getline_row, next_main_row}
+use Rattle.sem_primitives.specs.MainInput.{main_input}
+use Rattle.sem_primitives.specs.InputParts.{Main, operand_text}
+use Rattle.sem_primitives.specs.InputParts as definition
 use Rattle.sem_primitives.specs.Limits.{most_operands}
 use Rattle.sem_primitives.specs.SharedState.{Inner}
 use Rattle.sem_primitives.specs.declared.answers.InputAnswer.{InputAnswer}

@@ -4,7 +4,7 @@ use Rattle.awk_values.specs.declared.value.Value.{Value}
 use Rattle.world_core.specs.WorldState.{Entry, Source, State}
 use Rattle.world_core.specs.Calls.{Kind}
 use Rattle.sem_primitives.specs.ArrayMeaning.{element}
-use Rattle.sem_primitives.specs.InputMeaning.{text_or_none}
+use Rattle.sem_primitives.specs.InputParts.{text_or_none}
 use Rattle.sem_primitives.specs.SharedState.{Inner, MainInput as MainForm}
 use Rattle.host_arrays.specs.Pairs.{pairs_at}
 use Rattle.host_streams.specs.MainFinds.{main_found}

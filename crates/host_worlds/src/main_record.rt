@@ -1,6 +1,6 @@
 //! The next record of the main input, as an import asks for it.
 ghost use Rattle.std.specs.Prelude.{◌≡◌, IfErr, Ok, OnOk};
-ghost use Rattle.sem_primitives.specs.InputMeaning.{main_input};
+ghost use Rattle.sem_primitives.specs.MainInput.{main_input};
 ghost use Rattle.sem_primitives.specs.SharedState.{Inner};
 ghost use Rattle.host_bytes.specs.Outcomes.{IsStopOf};
 ghost use Rattle.host_streams.specs.Given.{GivesNone};

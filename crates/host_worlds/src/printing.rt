@@ -1,7 +1,8 @@
 //! `print` and `printf`.
 ghost use Rattle.std.specs.Prelude.{◌≡◌, ◌≤◌, IfErr, List, None, Ok, OnOk, ℕ, length};
 ghost use Rattle.sem_primitives.specs.InTurn.{with_name};
-ghost use Rattle.sem_primitives.specs.OutputMeaning.{formatted_values, print_row, printf_row};
+ghost use Rattle.sem_primitives.specs.OutputMeaning.{formatted_values};
+ghost use Rattle.sem_primitives.specs.Rows.{print_row, printf_row};
 ghost use Rattle.world_core.specs.WorldState.{Action};
 ghost use Rattle.host_imports.specs.declared.import.Import.{Import};
 ghost use Rattle.host_imports.specs.declared.import.VariadicImport.{VariadicImport};

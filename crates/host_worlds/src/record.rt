@@ -4,7 +4,7 @@ ghost use Rattle.awk_values.specs.Operators.{sum};
 ghost use Rattle.sem_primitives.specs.InputMeaning.{counted_by, counted_record};
 ghost use Rattle.sem_primitives.specs.SharedState.{Inner, with_special};
 ghost use Rattle.host_worlds.specs.Counts.{IsCounted, count_after, next_count};
-ghost use Rattle.sem_primitives.specs.Constants.{special_number};
+ghost use Rattle.sem_primitives.specs.ConstantNumbers.{special_number};
 ghost use Rattle.host_texts.specs.States.{specials_of, with_texts};
 
 use awk_text::MAX_NUMBER;

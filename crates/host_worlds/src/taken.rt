@@ -1,6 +1,6 @@
 //! What a call takes of the argument list.
 ghost use Rattle.std.specs.Prelude.{◌≡◌, ◌≤◌, IfOk, length};
-ghost use Rattle.sem_primitives.specs.Constants.{destination_at};
+ghost use Rattle.sem_primitives.specs.ConstantPlaces.{destination_at};
 ghost use Rattle.sem_primitives.specs.InTurn.{with_name};
 ghost use Rattle.sem_primitives.specs.OutputMeaning.{but_last, operands_of};
 ghost use Rattle.sem_primitives.specs.declared.sorts.Constant.{Constant};

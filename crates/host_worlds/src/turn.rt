@@ -1,6 +1,6 @@
 //! What the main input gives once, with what it is told of an operand.
 ghost use Rattle.std.specs.Prelude.{◌≡◌, Err, Ok, pos};
-ghost use Rattle.sem_primitives.specs.InputMeaning.{main_input};
+ghost use Rattle.sem_primitives.specs.MainInput.{main_input};
 ghost use Rattle.sem_primitives.specs.SharedState.{Inner, with_special};
 ghost use Rattle.sem_primitives.specs.declared.constants.Special.{Special as AnySpecial};
 ghost use Rattle.awk_values.specs.declared.value.Value.{Value as AnyValue};

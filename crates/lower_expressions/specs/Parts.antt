@@ -2,7 +2,7 @@
 -- code that comes after, `temporary` the one that the value goes to, `arrays` how many arrays of calls are in use, `exit` how many labels further out the
 -- exit is.
 use Rattle.std.specs.Prelude.{ℕ, zero, suc, ◌+◌, ◌^◌, pos, Bool, true, false, List, [], ◌∷◌, length}
-use Rattle.sem_primitives.specs.Constants.{flag_number}
+use Rattle.sem_primitives.specs.ConstantNumbers.{flag_number}
 use Rattle.sem_primitives.specs.Table.{arguments_of, answer_of, can_fault}
 use Rattle.sem_primitives.specs.declared.sorts.Argument.{Argument}
 use Rattle.sem_primitives.specs.declared.sorts.Argument.TheVariants as argument

@@ -1,6 +1,6 @@
 //! Lists of values, and what takes them.
 ghost use Rattle.std.specs.Prelude.{◌≡◌, ◌+◌, ◌≤◌, length, map};
-ghost use Rattle.sem_primitives.specs.Constants.{destination_number};
+ghost use Rattle.sem_primitives.specs.ConstantNumbers.{destination_number};
 ghost use Rattle.lower_model.specs.Emission.{listed_asked, values_counted};
 ghost use Rattle.lower_pieces.specs.Bounds.{most_places};
 ghost use Rattle.lower_pieces.specs.Emits.{Emits};

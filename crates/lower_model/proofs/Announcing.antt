@@ -4,7 +4,7 @@ use Rattle.std.specs.Prelude.{get_or, map, not, is_some, if◌then◌else◌, �
 use Rattle.std.proofs.lemmas.Bool.{and_parts, cases_eq}
 use Rattle.std.proofs.lemmas.List.{length-append}
 use Rattle.sem_primitives.specs.Assignments.{declared as told_at}
-use Rattle.sem_primitives.specs.Constants.{kind_number}
+use Rattle.sem_primitives.specs.ConstantNumbers.{kind_number}
 use Rattle.sem_primitives.specs.SharedState.{Shared, shared_after}
 use Rattle.sem_primitives.specs.Sorts.{InAnswer}
 use Rattle.sem_primitives.specs.Table.{arguments_of, answer_of, meaning}

@@ -3,7 +3,7 @@ use Rattle.std.proofs.Common.{◌≡◌, inl, inr, ℕ, suc, ◌-◌, ◌^◌, �
 use Rattle.std.specs.Prelude.{reverse}
 use Rattle.awk_values.specs.declared.fault.Fault.{Fault}
 use Rattle.awk_values.specs.declared.value.Value.{Value}
-use Rattle.sem_primitives.specs.Constants.{flag_number}
+use Rattle.sem_primitives.specs.ConstantNumbers.{flag_number}
 use Rattle.sem_primitives.specs.InTurn.{in_turn}
 use Rattle.sem_primitives.specs.Numbers.{number_word}
 use Rattle.sem_primitives.specs.SharedState.{shared_after}

@@ -5,7 +5,7 @@ use Rattle.std.specs.Int.{w32, w64, cast_signed, cast_unsigned}
 use Rattle.awk_values.specs.declared.fault.Fault.{Fault}
 use Rattle.awk_values.specs.declared.value.Value.TheVariants.{StrNum}
 use Rattle.sem_primitives.specs.Carried.{carried_out}
-use Rattle.sem_primitives.specs.InputMeaning.{getline_row, getline_line_row}
+use Rattle.sem_primitives.specs.Rows.{getline_row, getline_line_row}
 use Rattle.sem_primitives.specs.SharedState.{Inner, Shared, settles, shared_after}
 use Rattle.sem_primitives.specs.declared.answers.InputAnswer.{InputAnswer}
 use Rattle.sem_primitives.specs.declared.answers.InputAnswer.TheVariants as input

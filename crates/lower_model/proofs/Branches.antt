@@ -2,7 +2,7 @@
 use Rattle.std.proofs.Common.{◌≡◌, ℕ, zero, suc, ◌+◌, ◌≤◌, Bool, true, false, List, [], ◌∷◌, None, refl, ◌∙◌, arith}
 use Rattle.std.specs.Prelude.{nat_eq, cond, if◌then◌else◌}
 use Rattle.std.proofs.lemmas.Bool.{and_parts}
-use Rattle.sem_primitives.specs.Constants.{flag_number}
+use Rattle.sem_primitives.specs.ConstantNumbers.{flag_number}
 use Rattle.wasm_types.specs.Syntax.{Instructions, Done as NoMore}
 use Rattle.wasm_store.specs.declared.word.Word.TheVariants.{I32}
 use Rattle.mid_program.specs.Mid.{Kind, Program, Code, Step, form_of}

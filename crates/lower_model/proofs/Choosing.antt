@@ -6,7 +6,7 @@ use Rattle.std.proofs.lemmas.Bool.{and_parts, ne_eqb}
 use Rattle.awk_values.specs.declared.value.Value.{Value}
 use Rattle.awk_values.specs.Operators.{is_zero}
 use Rattle.awk_values.specs.Values.{truth_of_value}
-use Rattle.sem_primitives.specs.Constants.{flag_number}
+use Rattle.sem_primitives.specs.ConstantNumbers.{flag_number}
 use Rattle.sem_primitives.specs.Numbers.{Number, number_word}
 use Rattle.sem_primitives.specs.Sorts.{In}
 use Rattle.sem_primitives.specs.declared.sorts.Answer.TheVariants as answer

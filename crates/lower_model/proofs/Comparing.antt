@@ -6,7 +6,7 @@ use Rattle.std.proofs.lemmas.Bool.{and_parts}
 use Rattle.awk_values.specs.Comparison.{comparison, numeric_side, order_by, held, holds}
 use Rattle.awk_values.specs.declared.comparison.CompareOp.{CompareOp}
 use Rattle.awk_values.specs.declared.fault.Fault.{Fault}
-use Rattle.sem_primitives.specs.Constants.{comparison_number, flag_number}
+use Rattle.sem_primitives.specs.ConstantNumbers.{comparison_number, flag_number}
 use Rattle.sem_primitives.specs.Numbers.{Number, number_word}
 use Rattle.sem_primitives.specs.declared.sorts.Answer.TheVariants as answer
 use Rattle.sem_primitives.specs.declared.sorts.Argument.TheVariants as argument

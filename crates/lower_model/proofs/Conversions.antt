@@ -5,7 +5,7 @@ use Rattle.awk_values.specs.declared.fault.Fault.{Fault}
 use Rattle.awk_values.specs.declared.value.Value.{Value}
 use Rattle.awk_values.specs.declared.value.Value.TheVariants as value
 use Rattle.awk_values.specs.Values.{truth_of_value}
-use Rattle.sem_primitives.specs.Constants.{flag_number}
+use Rattle.sem_primitives.specs.ConstantNumbers.{flag_number}
 use Rattle.sem_primitives.specs.Numbers.{Number, number_of, number_by, number_word}
 use Rattle.sem_primitives.specs.SharedState.{shared_after, gives}
 use Rattle.sem_primitives.specs.ValueMeaning.{number_of_row}

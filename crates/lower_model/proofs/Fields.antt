@@ -5,7 +5,8 @@ use Rattle.std.proofs.lemmas.Bool.{leb-true, le-leb, ne_eqb}
 use Rattle.awk_values.specs.declared.fault.Fault.{Fault}
 use Rattle.awk_values.specs.declared.fault.Fault.TheVariants.{FieldNumber}
 use Rattle.awk_values.specs.declared.value.Value.{Value}
-use Rattle.sem_primitives.specs.FieldMeaning.{field_number, field_of, field_row}
+use Rattle.sem_primitives.specs.FieldMeaning.{field_number, field_of}
+use Rattle.sem_primitives.specs.Rows.{field_row}
 use Rattle.sem_primitives.specs.Numbers.{Number as AnyNumber, number_of, number_word}
 use Rattle.sem_primitives.specs.SharedState.{gives, shared_after, ◌>>=◌}
 use Rattle.sem_primitives.specs.declared.sorts.Answer.TheVariants as answer

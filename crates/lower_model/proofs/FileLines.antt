@@ -3,7 +3,7 @@ use Rattle.std.proofs.Common.{◌≡◌, inl, ℕ, suc, ◌+◌, true, false, Li
 use Rattle.std.specs.Prelude.{◌&&◌}
 use Rattle.std.proofs.lemmas.Bool.{and_parts}
 use Rattle.awk_values.specs.declared.fault.Fault.{Fault}
-use Rattle.sem_primitives.specs.InputMeaning.{getline_line_file_row}
+use Rattle.sem_primitives.specs.Rows.{getline_line_file_row}
 use Rattle.sem_primitives.specs.SharedState.{Inner, Shared, settles}
 use Rattle.sem_primitives.specs.Table.{meaning}
 use Rattle.sem_primitives.specs.declared.answers.InputAnswer.{InputAnswer}

@@ -16,13 +16,15 @@ use Rattle.sem_primitives.specs.Sorts.{Row}
 use Rattle.sem_primitives.specs.Texts.{limited, counted}
 use Rattle.sem_primitives.specs.Fields.{fields_of, Separator, pieces_of}
 use Rattle.sem_primitives.specs.Records.{Got, Record, AtEnd, Broken}
-use Rattle.sem_primitives.specs.FieldMeaning.{with_record, with_fields, with_field, field_number, set_special, set_special_row, set_field_row, done, special_text, joined, at_least, resized}
+use Rattle.sem_primitives.specs.FieldMeaning.{with_record, with_fields, with_field, field_number, set_special, done, special_text, joined, at_least, resized}
+use Rattle.sem_primitives.specs.Rows.{set_special_row, set_field_row}
 use Rattle.sem_primitives.specs.ArrayMeaning.{found, visited, with_array, numbered}
 use Rattle.sem_primitives.specs.TextMeaning.{match_row, match_start, with_match, substitute_row, substituted_by, replaced, places_of, split_row, splits_at}
 use Rattle.sem_primitives.specs.FirstMatch.{first_match}
 use Rattle.sem_primitives.specs.Eres.{expression_of}
 use Rattle.sem_primitives.specs.Finds.{observed, observed_by, seen}
-use Rattle.sem_primitives.specs.InputMeaning.{next_record, as_record, as_line, got_file, read_file, opened_file, open_or_read, getline_file_by, gives_up, source_of, reader_named}
+use Rattle.sem_primitives.specs.InputMeaning.{as_record, as_line, got_file, read_file, opened_file, open_or_read, getline_file_by, gives_up, reader_named}
+use Rattle.sem_primitives.specs.InputParts.{next_record, source_of}
 use Rattle.sem_primitives.specs.OutputMeaning.{kept_open, opened_if, written_by, put_text, printf_by, has_room, is_writing, formatted_values, operands_of, file_name, printed}
 use Rattle.sem_primitives.specs.Table.{arguments_of, meaning, listed_meaning}
 use Rattle.sem_primitives.specs.declared.answers.InputAnswer.{InputAnswer}

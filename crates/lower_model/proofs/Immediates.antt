@@ -6,7 +6,7 @@ use Rattle.awk_values.specs.Comparison.{comparison}
 use Rattle.awk_values.specs.declared.comparison.CompareOp.{CompareOp}
 use Rattle.awk_values.specs.declared.value.Value.{Value}
 use Rattle.awk_values.specs.declared.value.Value.TheVariants as value
-use Rattle.sem_primitives.specs.Constants.{comparison_number}
+use Rattle.sem_primitives.specs.ConstantNumbers.{comparison_number}
 use Rattle.sem_primitives.specs.Numbers.{number_of}
 use Rattle.sem_primitives.specs.declared.sorts.Answer.TheVariants as answer
 use Rattle.sem_primitives.specs.declared.sorts.Argument.TheVariants as argument

@@ -19,7 +19,8 @@ use Rattle.wasm_types.specs.declared.instr.IBinOp.{IBinOp}
 use Rattle.wasm_types.specs.declared.instr.IBinOp.TheVariants as bin
 use Rattle.wasm_types.specs.declared.instr.IRelOp.TheVariants.{Ne}
 use Rattle.wasm_types.specs.declared.instr.Simple.TheVariants.{Br, BrIf, LocalGet, LocalSet, I64Const, Compare, Binary}
-use Rattle.wasm_store.specs.Integers.{binary_at, quotient_signed, remainder_signed, is_integer}
+use Rattle.wasm_store.specs.Integers.{binary_at, quotient_signed, is_integer}
+use Rattle.wasm_store.specs.IntegerParts.{remainder_signed}
 use Rattle.wasm_store.specs.Words.{flag, given_by}
 use Rattle.wasm_store.specs.declared.trap.TrapKind.TheVariants.{DivideByZero, IntegerOverflow}
 use Rattle.wasm_store.specs.declared.word.Word.TheVariants.{I32, I64}

@@ -22,7 +22,10 @@ use Rattle.sem_primitives.specs.TextMeaning.{substitute_row, substituted_by, rep
 use Rattle.sem_primitives.specs.OutputMeaning.{has_room}
 use Rattle.sem_primitives.specs.Records.{Got, Record, AtEnd, Broken}
 use Rattle.sem_primitives.specs.Finds.{observed, seen}
-use Rattle.sem_primitives.specs.InputMeaning.{Main, Taken, Over, Pending, NotOpened, Failed, reader_source, leaves, stops_reading, begins_reading, with_operands, file_named, got_main, read_main, reader_of, opened, made, file_or_assignment, taken, operand_text, text_or_none, passes_operand, over, follows, is_below, reached, reach, reach_by, next_operand, go_on, main_input, next_record, got_file, read_file, opened_file, open_or_read, getline_line_file_row, source_of, reader_named, with_reader, counted_by, counted_record, as_record, as_line, next_of, next_main_row, getline_of, getline_by, getline_row, getline_line_row, start_by, start_from}
+use Rattle.sem_primitives.specs.InputMeaning.{got_file, read_file, opened_file, open_or_read, reader_named, with_reader, counted_by, counted_record, as_record, as_line, next_of, getline_of, getline_by}
+use Rattle.sem_primitives.specs.Rows.{getline_line_file_row, next_main_row, getline_row, getline_line_row}
+use Rattle.sem_primitives.specs.MainInput.{got_main, read_main, opened, made, file_or_assignment, taken, over, follows, reached, reach, reach_by, next_operand, go_on, main_input, start_by, start_from}
+use Rattle.sem_primitives.specs.InputParts.{Main, Taken, Over, Pending, NotOpened, Failed, reader_source, leaves, stops_reading, begins_reading, with_operands, file_named, reader_of, operand_text, text_or_none, passes_operand, is_below, next_record, source_of}
 use Rattle.sem_primitives.specs.declared.answers.InputAnswer.{InputAnswer}
 use Rattle.sem_primitives.specs.declared.answers.InputAnswer.TheVariants as input
 use Rattle.sem_primitives.specs.declared.answers.AssignAnswer.{AssignAnswer}

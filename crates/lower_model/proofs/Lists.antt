@@ -4,7 +4,7 @@ use Rattle.std.specs.Prelude.{take, drop, nat_le, ◌&&◌}
 use Rattle.std.proofs.lemmas.Bool.{and_parts, le-leb, leb-true}
 use Rattle.awk_values.specs.declared.fault.Fault.{Fault}
 use Rattle.awk_values.specs.declared.value.Value.{Value}
-use Rattle.sem_primitives.specs.Constants.{destination_number}
+use Rattle.sem_primitives.specs.ConstantNumbers.{destination_number}
 use Rattle.sem_primitives.specs.InTurn.{values_wanted, values_taken, with_name, listed_in_turn}
 use Rattle.sem_primitives.specs.Sorts.{InAnswer}
 use Rattle.sem_primitives.specs.declared.sorts.Argument.TheVariants as argument

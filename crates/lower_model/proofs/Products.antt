@@ -8,7 +8,8 @@ use Rattle.std.proofs.Math.IntN.{*ℤ_comm}
 use Rattle.std.proofs.lemmas.Bool.{eq-eqb, eqb-true, leb-true, le-leb, lt-ltb, ltb-true, ltb-false, ne_eqb, cases_lt}
 use Rattle.sem_primitives.proofs.Words.{fits}
 use Rattle.wasm_store.specs.declared.trap.TrapKind.TheVariants.{DivideByZero, IntegerOverflow}
-use Rattle.wasm_store.specs.Integers.{difference, quotient_signed, is_integer}
+use Rattle.wasm_store.specs.Integers.{quotient_signed, is_integer}
+use Rattle.wasm_store.specs.IntegerParts.{difference}
 use Rattle.lower_model.specs.Arithmetic.{near}
 
 abbrev pub word : ℤ → ℕ

@@ -11,7 +11,7 @@ use Rattle.awk_values.specs.Comparison.{comparison, numeric_side, order_by, held
 use Rattle.awk_values.specs.declared.comparison.CompareOp.{CompareOp}
 use Rattle.awk_values.specs.declared.comparison.CompareOp.TheVariants as op
 use Rattle.std.specs.Ordering.{int_cmp}
-use Rattle.sem_primitives.specs.Constants.{special_number}
+use Rattle.sem_primitives.specs.ConstantNumbers.{special_number}
 use Rattle.sem_primitives.specs.declared.constants.Special.TheVariants.{Nf}
 use Rattle.sem_primitives.specs.declared.sorts.Answer.TheVariants as answer
 use Rattle.sem_primitives.specs.declared.sorts.Sort.TheVariants as sort

@@ -5,7 +5,7 @@ use Rattle.std.specs.Prelude.{get_or}
 use Rattle.std.proofs.lemmas.Bool.{cases_eq}
 use Rattle.awk_values.specs.declared.value.Value.{Value as AnyValue}
 use Rattle.awk_values.specs.declared.value.Value.TheVariants.{Uninit}
-use Rattle.sem_primitives.specs.Constants.{flag_number}
+use Rattle.sem_primitives.specs.ConstantNumbers.{flag_number}
 use Rattle.sem_primitives.specs.Numbers.{number_word}
 use Rattle.sem_primitives.specs.SharedState.{Shared}
 use Rattle.sem_primitives.specs.declared.constants.NameKind.{NameKind}

@@ -15,7 +15,7 @@ use Rattle.wasm_types.specs.Syntax.{Instructions, Done as NoMore}
 use Rattle.wasm_types.specs.declared.instr.Simple.TheVariants.{GlobalSet, I64Const, Binary}
 use Rattle.wasm_types.specs.declared.instr.IBinOp.TheVariants.{RemS}
 use Rattle.wasm_types.specs.declared.types.ValType.TheVariants as ty
-use Rattle.wasm_store.specs.Integers.{remainder_signed}
+use Rattle.wasm_store.specs.IntegerParts.{remainder_signed}
 use Rattle.wasm_store.specs.declared.trap.TrapKind.{TrapKind}
 use Rattle.wasm_store.specs.Words.{given_by}
 use Rattle.wasm_store.specs.declared.word.Word.TheVariants.{I64}

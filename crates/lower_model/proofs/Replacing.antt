@@ -3,7 +3,7 @@ use Rattle.std.proofs.Common.{◌≡◌, ℕ, suc, ◌+◌, Bool, true, false, L
 use Rattle.std.specs.Prelude.{is_some, ◌&&◌}
 use Rattle.std.proofs.lemmas.Bool.{and_parts}
 use Rattle.awk_values.specs.declared.fault.Fault.{Fault}
-use Rattle.sem_primitives.specs.Constants.{flag_number}
+use Rattle.sem_primitives.specs.ConstantNumbers.{flag_number}
 use Rattle.sem_primitives.specs.Numbers.{Number}
 use Rattle.sem_primitives.specs.SharedState.{Inner, Shared, settles}
 use Rattle.sem_primitives.specs.Sorts.{Row}

@@ -3,7 +3,7 @@ use Rattle.std.proofs.Common.{◌≡◌, ℕ, zero, suc, ◌^◌, ◌-◌, ◌<�
 use Rattle.std.specs.Prelude.{not, is_some}
 use Rattle.awk_values.specs.declared.fault.Fault.{Fault}
 use Rattle.sem_primitives.specs.Carried.{carried_out}
-use Rattle.sem_primitives.specs.InputMeaning.{start_assign_row}
+use Rattle.sem_primitives.specs.MainInput.{start_assign_row}
 use Rattle.sem_primitives.specs.SharedState.{Inner, settles}
 use Rattle.sem_primitives.specs.declared.answers.AssignAnswer.{AssignAnswer}
 use Rattle.sem_primitives.specs.declared.answers.AssignAnswer.TheVariants as assign

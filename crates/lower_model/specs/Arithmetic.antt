@@ -4,7 +4,7 @@ use Rattle.awk_text.specs.Number.{largest}
 use Rattle.awk_values.specs.declared.fault.Fault.TheVariants.{Range, DivisionByZero, Inexact, FieldNumber}
 use Rattle.awk_values.specs.declared.comparison.CompareOp.{CompareOp}
 use Rattle.awk_values.specs.declared.comparison.CompareOp.TheVariants as compare
-use Rattle.sem_primitives.specs.Constants.{comparison_number}
+use Rattle.sem_primitives.specs.ConstantNumbers.{comparison_number}
 use Rattle.sem_primitives.specs.Limits.{most_fields}
 use Rattle.sem_primitives.specs.declared.sorts.Sort.TheVariants as sort
 use Rattle.sem_primitives.specs.declared.sorts.Answer.TheVariants as answer

@@ -3,7 +3,7 @@
 use Rattle.std.specs.Prelude.{ℕ, zero, suc, ◌+◌, ◌-◌, ◌^◌, Bool, true, false, if◌then◌else◌, List, [], ◌∷◌, length, get_or, Option, Some, None, ℤ, pos}
 use Rattle.std.specs.Int.{w64, cast_unsigned}
 use Rattle.awk_values.specs.declared.comparison.CompareOp.{CompareOp}
-use Rattle.sem_primitives.specs.Constants.{comparison_number, destination_number, flag_number}
+use Rattle.sem_primitives.specs.ConstantNumbers.{comparison_number, destination_number, flag_number}
 use Rattle.sem_primitives.specs.Table.{arguments_of, answer_of, can_fault}
 use Rattle.sem_primitives.specs.declared.constants.Destination.{Destination}
 use Rattle.sem_primitives.specs.declared.constants.Destination.TheVariants.{Standard, Emptied, Appended}

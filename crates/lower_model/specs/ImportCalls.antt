@@ -4,7 +4,8 @@ use Rattle.std.specs.Prelude.{ℕ, ◌-◌, ◌+◌, ◌^◌, nat_le, nat_lt, Bo
 use Rattle.awk_values.specs.declared.fault.Fault.{Fault}
 use Rattle.awk_values.specs.declared.value.Value.{Value as AnyValue}
 use Rattle.sem_primitives.specs.Carried.{carried_out}
-use Rattle.sem_primitives.specs.Constants.{InConstant, constant_at, flag_number}
+use Rattle.sem_primitives.specs.Constants.{InConstant, constant_at}
+use Rattle.sem_primitives.specs.ConstantNumbers.{flag_number}
 use Rattle.sem_primitives.specs.InTurn.{in_turn, values_taken, listed_in_turn}
 use Rattle.sem_primitives.specs.Numbers.{faulted_word, number_of_word, number_word}
 use Rattle.sem_primitives.specs.SharedState.{Shared, HostResult, gives, shared_after}

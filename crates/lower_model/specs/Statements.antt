@@ -4,7 +4,7 @@ use Rattle.awk_text.specs.Number.{largest}
 use Rattle.std.specs.Int.{w64, cast_unsigned}
 use Rattle.awk_values.specs.Faults.{fault_number}
 use Rattle.awk_values.specs.declared.fault.Fault.TheVariants.{NextOutside, Range}
-use Rattle.sem_primitives.specs.Constants.{flag_number, kind_number, special_number}
+use Rattle.sem_primitives.specs.ConstantNumbers.{flag_number, kind_number, special_number}
 use Rattle.sem_primitives.specs.declared.constants.NameKind.{NameKind}
 use Rattle.sem_primitives.specs.declared.constants.NameKind.TheVariants.{Scalar, ArrayOrFunction}
 use Rattle.sem_primitives.specs.declared.constants.Special.TheVariants.{Nf}

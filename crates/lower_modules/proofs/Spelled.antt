@@ -4,7 +4,7 @@ use Rattle.std.proofs.lemmas.List.{length-append}
 use Rattle.wasm_types.specs.Instructions.{Each, SpellAll, Spells, SpellsImmediates, block_code}
 use Rattle.wasm_types.specs.Leb128.{IsRaw}
 use Rattle.wasm_types.specs.ModuleGrammar.{AreSections, CodeForm, Custom, Give, GivesPart, IsCode, IsModule, Known, Parts, Section, joined, no_parts, number}
-use Rattle.wasm_types.specs.Opcodes.{Immediates, Nothing, Index, Memory, Bits32, Bits64, IndexReserved, Reserved, immediates}
+use Rattle.wasm_types.specs.Immediates.{Immediates, Nothing, Index, Memory, Bits32, Bits64, IndexReserved, Reserved, immediates}
 use Rattle.wasm_types.specs.Syntax.{BrTable, Block, Done, FuncForm, If, Instruction, Instructions, Loop, ModuleForm, Plain, Then}
 use Rattle.wasm_types.specs.declared.instr.Simple.{Simple}
 use Rattle.wasm_types.specs.declared.instr.Simple.TheVariants.{Call}

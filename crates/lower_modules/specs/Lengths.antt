@@ -1,6 +1,6 @@
 -- How many bytes code takes at least.
 use Rattle.std.specs.Prelude.{ℕ, ◌+◌, List, [], ◌∷◌}
-use Rattle.wasm_types.specs.Opcodes.{Immediates, Nothing, immediates}
+use Rattle.wasm_types.specs.Immediates.{Immediates, Nothing, immediates}
 use Rattle.wasm_types.specs.Syntax.{Instruction, Plain, BrTable, Block, Loop, If, Instructions, Done, Then}
 use Rattle.lower_model.specs.Machine.{Callee}
 

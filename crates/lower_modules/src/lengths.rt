@@ -2,7 +2,7 @@
 ghost use Rattle.std.specs.Prelude.{◌≡◌, ◌≤◌};
 ghost use Rattle.lower_modules.specs.Lengths.{least_among, least_in, least_of, least_with};
 ghost use Rattle.lower_modules.specs.View.{view_functions};
-ghost use Rattle.wasm_types.specs.Opcodes.{immediates};
+ghost use Rattle.wasm_types.specs.Immediates.{immediates};
 ghost use Rattle.wasm_types.specs.View.{view, views};
 
 use crate::function::Function;

@@ -1,7 +1,7 @@
 -- Parts of the definitions, which are added by functions of their own.
 use Rattle.std.specs.Prelude.{ℕ, suc, true}
 use Rattle.awk_values.specs.declared.comparison.CompareOp.{CompareOp}
-use Rattle.sem_primitives.specs.Constants.{comparison_number}
+use Rattle.sem_primitives.specs.ConstantNumbers.{comparison_number}
 use Rattle.sem_primitives.specs.declared.table.Primitive.TheVariants.{Compare, Truth}
 use Rattle.wasm_types.specs.Syntax.{Instructions, Done}
 use Rattle.wasm_types.specs.declared.instr.CvtOp.TheVariants.{I64ExtendI32U}

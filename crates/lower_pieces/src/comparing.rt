@@ -1,6 +1,6 @@
 //! Comparison: by the host where one is a value, or a text stands beside one; else of numbers, of which one that is not there yet is 0.
 ghost use Rattle.std.specs.Prelude.{◌≡◌, suc, ◌≤◌};
-ghost use Rattle.sem_primitives.specs.Constants.{comparison_number};
+ghost use Rattle.sem_primitives.specs.ConstantNumbers.{comparison_number};
 ghost use Rattle.lower_model.specs.Arithmetic.{bare_compared, compared, is_value, may_be_text, numbers_compared, relation, texts_beside, values_compared, zeroed_if};
 ghost use Rattle.lower_pieces.specs.Bounds.{most_labels, most_places};
 ghost use Rattle.lower_pieces.specs.Emits.{Emits};

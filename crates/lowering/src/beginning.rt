@@ -1,6 +1,6 @@
 //! What `main` does before the script runs.
 ghost use Rattle.std.specs.Prelude.{◌≡◌, ◌+◌, ◌<◌, ◌≤◌, ◌^◌, length, zero};
-ghost use Rattle.sem_primitives.specs.Constants.{kind_number};
+ghost use Rattle.sem_primitives.specs.ConstantNumbers.{kind_number};
 ghost use Rattle.mid_program.specs.View.{view_kind, view_mid};
 ghost use Rattle.lower_model.specs.Statements.{before_parts, declared, declared_kind, names_declared, names_made, routines_declared, started};
 ghost use Rattle.lower_pieces.specs.Bounds.{most_places};

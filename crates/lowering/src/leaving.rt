@@ -1,6 +1,6 @@
 //! How a function is left, and ranges that open and close.
 ghost use Rattle.std.specs.Prelude.{◌≤◌};
-ghost use Rattle.sem_primitives.specs.Constants.{flag_number};
+ghost use Rattle.sem_primitives.specs.ConstantNumbers.{flag_number};
 ghost use Rattle.wasm_types.specs.declared.instr.Simple.TheVariants.{GlobalSet, I32Const};
 ghost use Rattle.lower_model.specs.Places.{range_global};
 ghost use Rattle.lower_model.specs.Small.{emit};

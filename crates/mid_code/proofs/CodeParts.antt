@@ -21,7 +21,7 @@ use Rattle.std.specs.declared.alloc.Global.{Global}
 use Rattle.awk_grammar.specs.Marks.{bare_name}
 use Rattle.awk_resolve.specs.ViewKinds.{view_name, view_name_kinds}
 use Rattle.awk_resolve.specs.declared.function_names.NameKind.{NameKind}
-use Rattle.sem_primitives.specs.Constants.{flag_number}
+use Rattle.sem_primitives.specs.ConstantNumbers.{flag_number}
 use Rattle.sem_primitives.specs.declared.constants.Special.TheVariants.{Fs}
 use Rattle.sem_primitives.specs.declared.sorts.Sort.TheVariants as sort
 use Rattle.sem_primitives.specs.declared.table.Listed.TheVariants as listed

@@ -24,7 +24,8 @@ use Rattle.awk_text.specs.Number.{denominator, numerator}
 use Rattle.awk_text.specs.Reading.{exponent_at, fraction_at, numeral_at, sign_at}
 use Rattle.sem_primitives.specs.declared.constants.Destination.TheVariants as destination
 use Rattle.sem_primitives.specs.declared.table.Listed.TheVariants as listed
-use Rattle.sem_scripts.specs.Items.{item_ranges, print_record}
+use Rattle.sem_scripts.specs.Items.{print_record}
+use Rattle.sem_scripts.specs.Ranges.{item_ranges}
 use Rattle.mid_program.specs.Mid.{Codes, End, At, Over, Step as PlainStep, Block, Each, Eval, If, Loop, Steps, NoStep, Then}
 use Rattle.sem_scripts.specs.Names.{Scope, array_of, variable_of}
 use Rattle.sem_scripts.specs.Statements.{operands_of, with_last, with_target}

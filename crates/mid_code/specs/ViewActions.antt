@@ -1,7 +1,7 @@
 -- The code of items, as the code has it.
 use Rattle.std.specs.Prelude.{◌≡◌, ◌+◌, ℕ, List, ◌∷◌}
 use Rattle.awk_grammar.specs.Trees.{Item}
-use Rattle.sem_scripts.specs.Items.{item_ranges}
+use Rattle.sem_scripts.specs.Ranges.{item_ranges}
 use Rattle.sem_scripts.specs.Names as names
 use Rattle.mid_program.specs.Translation.{begin_code, end_code, items_code}
 use Rattle.mid_code.specs.ViewSteps.{chain}

@@ -5,7 +5,7 @@ ghost use Rattle.awk_grammar.specs.Token.{Ere};
 ghost use Rattle.awk_grammar.specs.Trees.{Leaf, NoTree};
 ghost use Rattle.awk_grammar.specs.View.{view as tree, view_assign, view_step};
 ghost use Rattle.awk_resolve.specs.ViewKinds.{view_name};
-ghost use Rattle.sem_primitives.specs.Constants.{flag_number};
+ghost use Rattle.sem_primitives.specs.ConstantNumbers.{flag_number};
 ghost use Rattle.sem_primitives.specs.declared.table.Primitive.TheVariants as row;
 ghost use Rattle.awk_text.specs.Escapes.{string_text};
 ghost use Rattle.mid_program.specs.declared.mid.Arithmetic.TheVariants as inline;

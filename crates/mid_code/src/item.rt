@@ -4,7 +4,8 @@ ghost use Rattle.std.specs.Prelude.{◌≡◌, ◌≤◌, ◌+◌, ◌||◌, Lis
 ghost use Rattle.awk_grammar.specs.Trees.{Item as PlainItem};
 ghost use Rattle.awk_grammar.specs.View.{view as tree};
 ghost use Rattle.awk_grammar.specs.ViewStmt.{view_item, view_items, view_pattern, view_stmts as tree_stmts};
-ghost use Rattle.sem_scripts.specs.Items.{item_ranges, print_record, range_count, reads_records};
+ghost use Rattle.sem_scripts.specs.Items.{print_record, reads_records};
+ghost use Rattle.sem_scripts.specs.Ranges.{item_ranges, range_count};
 ghost use Rattle.mid_program.specs.Mid as plain;
 ghost use Rattle.mid_program.specs.Translation.{begin_code, code_of, end_code, items_code, steps_code, where_code};
 ghost use Rattle.mid_program.specs.ViewCode.{view_steps};

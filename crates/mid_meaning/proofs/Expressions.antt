@@ -4,7 +4,8 @@ use Rattle.std.specs.Prelude.{if◌then◌else◌, Some}
 use Rattle.awk_values.specs.Values.{truth_of_value}
 use Rattle.awk_values.specs.declared.value.Value.{Value}
 use Rattle.awk_values.specs.declared.value.Value.TheVariants as value
-use Rattle.sem_primitives.specs.Constants.{special_number, special_at, flag_number, flag_at}
+use Rattle.sem_primitives.specs.ConstantPlaces.{special_at, flag_at}
+use Rattle.sem_primitives.specs.ConstantNumbers.{special_number, flag_number}
 use Rattle.sem_primitives.specs.Numbers.{Number as AnyNumber}
 use Rattle.sem_primitives.specs.Table.{arguments_of}
 use Rattle.sem_primitives.specs.declared.constants.Special.{Special}

@@ -4,7 +4,8 @@ use Rattle.std.specs.Prelude.{if◌then◌else◌, Option, Some, None}
 use Rattle.awk_values.specs.Values.{truth_of_value}
 use Rattle.awk_values.specs.declared.value.Value.{Value}
 use Rattle.sem_primitives.specs.Table.{arguments_of}
-use Rattle.sem_primitives.specs.Constants.{special_number, special_at}
+use Rattle.sem_primitives.specs.ConstantPlaces.{special_at}
+use Rattle.sem_primitives.specs.ConstantNumbers.{special_number}
 use Rattle.sem_primitives.specs.declared.constants.Destination.{Destination}
 use Rattle.sem_primitives.specs.declared.sorts.Constant.TheVariants as constant
 use Rattle.sem_primitives.specs.declared.table.Primitive.TheVariants as row

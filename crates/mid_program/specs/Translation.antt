@@ -2,7 +2,7 @@
 use Rattle.std.specs.Prelude.{ℕ, suc, ◌+◌, Bool, true, false, if◌then◌else◌, List, [], ◌∷◌, map, Option, Some, None, pos}
 use Rattle.awk_text.specs.Escapes.{string_text}
 use Rattle.sem_primitives.specs.Numbers.{Number as AnyNumber}
-use Rattle.sem_primitives.specs.Constants.{special_number, flag_number}
+use Rattle.sem_primitives.specs.ConstantNumbers.{special_number, flag_number}
 use Rattle.sem_primitives.specs.declared.sorts.Sort.TheVariants as sort
 use Rattle.sem_primitives.specs.declared.constants.Special.{Special}
 use Rattle.sem_primitives.specs.declared.constants.Special.TheVariants.{Fs}
@@ -23,7 +23,8 @@ use Rattle.sem_scripts.specs.Names.{Name, Function, Resolved, Scope, Variable, R
 use Rattle.sem_scripts.specs.Names as names
 use Rattle.sem_scripts.specs.Steps.{constant, or_nought, comparison_of, ere_text, ere_in, is_ere}
 use Rattle.sem_scripts.specs.Statements.{operands_of, with_target, destination_of, listed_of, scope_in}
-use Rattle.sem_scripts.specs.Items.{top, print_record, pattern_ranges, range_count, reads_records}
+use Rattle.sem_scripts.specs.Items.{top, print_record, pattern_ranges, reads_records}
+use Rattle.sem_scripts.specs.Ranges.{range_count}
 use Rattle.mid_program.specs.Texts.{text_place, texts_of_script}
 use Rattle.mid_program.specs.Mid.{Kind, Boxed, ArrayKind, Global, Parameter, Code, Do, Over, Compare, Call, Ask, AskLine, FileLine, Replace, Number, Text, Unset, Get, Set, Array, IsOpen, Choose, Seq, Let, Bound, Codes, End, At, Fixed, Fresh, Declared, Step, Eval, Block, If, Loop, Each, Break, Continue, Next, Exit, ExitWith, Return, Mark, Steps, NoStep, Then, Routine, Program}
 

@@ -9,7 +9,8 @@ use Rattle.wasm_types.specs.declared.opcodes.IndexOp.TheVariants.{Br, BrIf, Call
 use Rattle.wasm_types.specs.declared.opcodes.Lead.{Lead}
 use Rattle.wasm_types.specs.declared.opcodes.Lead.TheVariants as lead
 use Rattle.wasm_types.specs.Syntax.{Instruction, Plain, BrTable, Block, Loop, If, Instructions, Done, Then}
-use Rattle.wasm_types.specs.Opcodes.{Memory, opcode, index_opcode}
+use Rattle.wasm_types.specs.Opcodes.{opcode, index_opcode}
+use Rattle.wasm_types.specs.Immediates.{Memory}
 use Rattle.wasm_types.specs.Leads.{IsLead, IsBare, indexed, code, lead_at}
 use Rattle.wasm_types.specs.Leb128.{IsU32}
 use Rattle.wasm_types.specs.Instructions.{IsIndex, IsValType, block_code, SpellsImmediates, Spells, SpellAll, depth, depths, IsExpr}

@@ -11,7 +11,8 @@ use Rattle.wasm_types.specs.declared.opcodes.IndexOp.TheVariants.{Br, BrIf, Call
 use Rattle.wasm_types.specs.declared.opcodes.Lead.{Lead}
 use Rattle.wasm_types.specs.declared.opcodes.Lead.TheVariants as lead
 use Rattle.wasm_types.specs.Syntax.{Instruction, Plain, BrTable, Block, Loop, If, Instructions, Done}
-use Rattle.wasm_types.specs.Opcodes.{opcode, Immediates, Nothing, Index, Memory, Bits32, Bits64, IndexReserved, Reserved, immediates, index_opcode, load_opcode, store_opcode}
+use Rattle.wasm_types.specs.Opcodes.{opcode, index_opcode, load_opcode, store_opcode}
+use Rattle.wasm_types.specs.Immediates.{Immediates, Nothing, Index, Memory, Bits32, Bits64, IndexReserved, Reserved, immediates}
 use Rattle.wasm_types.specs.Leads.{indexed, code, find_lead, lead_at, is_float, control_leads, memory_leads, i32_leads, i64_leads, convert_leads}
 use Rattle.wasm_types.specs.Instructions.{IsIndex, val_code, IsValType, block_code, SpellsImmediates, Spells, SpellAll, depth, depths, IsExpr}
 use Rattle.module_decoder.specs.declared.fault.DecodeFault.TheVariants.{BadSection, BadOpcode, Float, TooLarge}

@@ -16,7 +16,7 @@ use Rattle.wasm_types.specs.declared.module.ExportDesc.TheVariants as export
 use Rattle.wasm_types.specs.declared.instr.Simple.{Simple}
 use Rattle.wasm_types.specs.declared.instr.Simple.TheVariants.{Unreachable, Nop, Br, BrIf, Return, Call, CallIndirect, Drop, Select, LocalGet, LocalSet, LocalTee, GlobalGet, GlobalSet, Load, Store, MemorySize, MemoryGrow, I32Const, I64Const, Test, Compare, Unary, Binary, Convert}
 use Rattle.wasm_types.specs.Syntax.{Instruction, Plain, BrTable, Block, Loop, If, Instructions, Done, Then, Signature, ImportForm, FuncForm, GlobalForm, ExportForm, ElemForm, DataForm, ModuleForm}
-use Rattle.wasm_types.specs.Opcodes.{immediates}
+use Rattle.wasm_types.specs.Immediates.{immediates}
 use Rattle.wasm_types.specs.Instructions.{depth, depths}
 use Rattle.wasm_types.specs.ModuleGrammar.{IsModule}
 use Rattle.wasm_types.specs.Typing.{CodeOk, Context, DataOk, DescOk, Effect, ElemOk, Fixed, FuncOk, GrowsTo, ImportOk, InstrOk, IsConstant, IsFunction, LimitsOk, ModuleOk, StartOk, block, callee_in, choice, constant_of, context_in, effect_of, function_types, loop, more, over, set_effect, simple, table, typed_in}

@@ -6,7 +6,7 @@ use Rattle.wasm_types.specs.declared.types.Limits.{Limits}
 use Rattle.wasm_types.specs.declared.module.ExportDesc.{ExportDesc}
 use Rattle.wasm_types.specs.declared.module.ExportDesc.TheVariants as export
 use Rattle.wasm_types.specs.Syntax.{Instruction, Plain, BrTable, Block, Loop, If, Instructions, Done, Then, ImportForm, FuncForm, GlobalForm, ExportForm, ElemForm, DataForm, ModuleForm}
-use Rattle.wasm_types.specs.Opcodes.{Immediates, Nothing, Index, Memory, Bits32, Bits64, IndexReserved, Reserved, immediates}
+use Rattle.wasm_types.specs.Immediates.{Immediates, Nothing, Index, Memory, Bits32, Bits64, IndexReserved, Reserved, immediates}
 use Rattle.wasm_types.specs.Instructions.{depths}
 use Rattle.wasm_types.specs.Profile.{most_elements, most_locals, most_module_bytes, most_nesting, most_pages}
 use Rattle.module_writer.specs.Size.{module_size}

@@ -5,7 +5,7 @@ use Rattle.wasm_types.specs.declared.types.Limits.{Limits}
 use Rattle.wasm_types.specs.declared.module.ExportDesc.{ExportDesc}
 use Rattle.wasm_types.specs.declared.module.ExportDesc.TheVariants as export
 use Rattle.wasm_types.specs.Syntax.{Instruction, Plain, BrTable, Block, Loop, If, Instructions, Done, Then, Signature, ImportForm, FuncForm, GlobalForm, ExportForm, ElemForm, DataForm, ModuleForm}
-use Rattle.wasm_types.specs.Opcodes.{Immediates, Nothing, Index, Memory, Bits32, Bits64, IndexReserved, Reserved, immediates}
+use Rattle.wasm_types.specs.Immediates.{Immediates, Nothing, Index, Memory, Bits32, Bits64, IndexReserved, Reserved, immediates}
 use Rattle.wasm_types.specs.Leb128Texts.{u32_text, s32_text, s64_text}
 use Rattle.module_writer.specs.Writing.{runs_of}
 

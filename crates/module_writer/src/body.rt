@@ -1,7 +1,7 @@
 //! Instructions and their bodies.
 
 ghost use Rattle.std.specs.Prelude.{◌≡◌};
-ghost use Rattle.wasm_types.specs.Opcodes.{immediates};
+ghost use Rattle.wasm_types.specs.Immediates.{immediates};
 ghost use Rattle.wasm_types.specs.Leb128Texts.{and_then};
 ghost use Rattle.wasm_types.specs.View.{view, views};
 ghost use Rattle.module_writer.specs.Outputs.{Adds};

@@ -16,7 +16,7 @@ use Rattle.awk_tokens.specs.declared.token.TokenFault.{TokenFault}
 use Rattle.awk_tokens.specs.declared.token.TokenFault.TheVariants as cutting
 use Rattle.awk_tokens.specs.declared.reserved_words.LeftOut.{LeftOut}
 use Rattle.awk_tokens.specs.declared.reserved_words.LeftOut.TheVariants.{Atan2, Cos, Exp, Func, Log, Rand, Sin, Sqrt, Srand, System}
-use Rattle.awk_values.specs.Faults.{fault_name}
+use Rattle.awk_values.specs.FaultNames.{fault_name}
 use Rattle.ere_syntax.specs.declared.fault.EreFault.{EreFault}
 use Rattle.ere_syntax.specs.declared.fault.EreFault.TheVariants as expressions
 use Rattle.module_decoder.specs.declared.fault.DecodeFault.{DecodeFault}

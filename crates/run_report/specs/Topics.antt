@@ -2,7 +2,7 @@
 use Rattle.std.specs.Prelude.{ℕ, ◌==◌, List, [], ◌∷◌, Bool, Option, codes, ◌≡◌, ◌++◌, drop, if◌then◌else◌, length, take}
 use Rattle.std.specs.List.{before_first, find, starts_with}
 use Rattle.std.specs.Str.{str_eq_ignore_ascii_case}
-use Rattle.awk_values.specs.Faults.{fault_name}
+use Rattle.awk_values.specs.FaultNames.{fault_name}
 use Rattle.awk_values.specs.declared.fault.Fault.TheVariants as faults
 use Rattle.wasm_store.specs.declared.trap.TrapKind.TheVariants as traps
 use Rattle.run_report.specs.EndTexts.{trap_word}

@@ -1,13 +1,14 @@
 -- What a world around another one was given, the world inside was given.
 use Rattle.std.specs.Prelude.{ℕ, List}
 use Rattle.sem_primitives.specs.Jobs.{JobForm}
-use Rattle.world_core.specs.Traces.{Call, IsHandedOn}
+use Rattle.world_core.specs.Traces.{Call}
+use Rattle.world_core.specs.TraceParts.{IsHandedOn}
 use Rattle.world_core.specs.WorldState.{State}
 use Rattle.run_report.specs.declared.end.RunEnd.{RunEnd}
-use Rattle.awk_run.specs.ModuleRun.{Answers, IsGiven}
+use Rattle.run_modules.specs.ModuleRun.{Answers, IsGiven}
 use Rattle.awk_run.specs.ScriptRuns.{ScriptAnswers}
-use Rattle.awk_run.proofs.Gave.{given_inside}
-use Rattle.awk_run.proofs.Runs.{answers_so}
+use Rattle.run_modules.proofs.Gave.{given_inside}
+use Rattle.run_modules.proofs.Runs.{answers_so}
 use Rattle.awk_run.proofs.ScriptRuns.{script_answers_so}
 
 pub module_inside : {V W : Type 0} (tells : Type 0) (did : W → Call → W → Type 0) (old new : V) (inside : V → W) (bytes : List ℕ) (job : JobForm) (steps : ℕ)

@@ -1,10 +1,3 @@
-mod Turns
-mod Runs
-mod Quiet
-mod Listing
-mod Silent
-mod Unlisting
-mod Equals
 mod Moved
 mod Unknown
 mod Inside

@@ -1,17 +1,18 @@
 -- What a world of real files was given within its limits, its outlets got.
 use Rattle.std.proofs.Common.{◌≡◌, ℕ, Bool, List, [], ◌∷◌, Option, ap, inl, inr, refl}
-use Rattle.world_core.specs.Traces.{Call, IsHandedOn, Opened, Other, Trace, Wrote}
+use Rattle.world_core.specs.Traces.{Call, Opened, Other, Trace, Wrote}
+use Rattle.world_core.specs.TraceParts.{IsHandedOn}
 use Rattle.world_core.specs.WorldState.{Action, State}
 use Rattle.world_os.specs.OsStreams.{Gives}
 use Rattle.world_os.specs.declared.world.OsStream.{OsStream}
 use Rattle.command_line.specs.declared.Task.{Task}
 use Rattle.run_report.specs.declared.end.RunEnd.{RunEnd}
-use Rattle.awk_run.specs.ModuleRun.{Answers, IsGiven}
+use Rattle.run_modules.specs.ModuleRun.{Answers, IsGiven}
 use Rattle.awk_run.specs.ScriptRuns.{ScriptAnswers}
-use Rattle.awk_run.proofs.Gave.{none_given}
-use Rattle.awk_run.proofs.Runs.{answers_so}
+use Rattle.run_modules.proofs.Gave.{none_given}
+use Rattle.run_modules.proofs.Runs.{answers_so}
 use Rattle.awk_run.proofs.ScriptRuns.{script_answers_so}
-use Rattle.run_tasks.specs.Jobs.{files_of_task, job_of_task}
+use Rattle.task_pages.specs.Jobs.{files_of_task, job_of_task}
 use Rattle.run_tasks.specs.Outlets.{Gets, IsGivenOut, Outlets}
 use Rattle.run_tasks.specs.Runs.{GivesModule, GivesText, Told}
 

@@ -3,11 +3,11 @@ use Rattle.std.specs.Prelude.{ℕ, List}
 use Rattle.world_core.specs.WorldState.{Action, State}
 use Rattle.command_line.specs.declared.Task.{Task}
 use Rattle.run_report.specs.declared.end.RunEnd.{RunEnd}
-use Rattle.awk_run.specs.ModuleRun.{Answers}
+use Rattle.run_modules.specs.ModuleRun.{Answers}
 use Rattle.awk_run.specs.ScriptRuns.{ScriptAnswers}
-use Rattle.awk_run.proofs.Runs.{answers_so}
+use Rattle.run_modules.proofs.Runs.{answers_so}
 use Rattle.awk_run.proofs.ScriptRuns.{script_answers_so}
-use Rattle.run_tasks.specs.Jobs.{files_of_task, job_of_task}
+use Rattle.task_pages.specs.Jobs.{files_of_task, job_of_task}
 use Rattle.run_tasks.specs.Runs.{Anything, RunsModule, RunsText, Told}
 
 pub any_text : (given : List Action → Type 0) (task : Task) (script : List ℕ) (environment : List (List ℕ × List ℕ)) (after : State) (e : RunEnd)

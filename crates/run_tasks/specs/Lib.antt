@@ -1,9 +1,5 @@
-pub mod Calls
-pub mod Powers
-pub mod ImportExamples
-pub mod Jobs
-pub mod Examples
-pub mod Tasks
 pub mod Runs
 pub mod Outlets
 pub mod ModuleWhereTexts
+pub mod Uncompiled
+pub mod Compiles

@@ -1,10 +1,11 @@
 -- What a run gave to files and to the program's own streams, by what these tell that they hold.
 use Rattle.std.specs.Prelude.{◌≡◌, ℕ, Bool, List, [], Option}
-use Rattle.world_core.specs.Traces.{Call, IsHandedOn}
+use Rattle.world_core.specs.Traces.{Call}
+use Rattle.world_core.specs.TraceParts.{IsHandedOn}
 use Rattle.world_core.specs.WorldState.{Action}
 use Rattle.world_os.specs.OsStreams.{Gives}
 use Rattle.world_os.specs.declared.world.OsStream.{OsStream}
-use Rattle.awk_run.specs.ModuleRun.{IsGiven}
+use Rattle.run_modules.specs.ModuleRun.{IsGiven}
 
 -- the streams that were opened, whether names of streams mean the streams, and what the standard output and the standard error hold
 pub record Outlets (F : Type 0) : Type 0 where

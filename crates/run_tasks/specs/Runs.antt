@@ -1,22 +1,17 @@
--- What a task runs, and what is told of a script that is not compiled.
+-- What a task runs.
 use Rattle.std.specs.Prelude.{ℕ, List, Option, IfSome}
 use Rattle.world_core.specs.WorldState.{Action, State}
 use Rattle.command_line.specs.declared.Task.{Task}
 use Rattle.awk_run.specs.Counted.{IsCountedIn}
-use Rattle.awk_run.specs.ModuleRun.{Answers}
-use Rattle.awk_run.specs.ModuleSeen.{IsModuleSeenIn}
+use Rattle.run_modules.specs.ModuleRun.{Answers}
+use Rattle.run_modules.specs.ModuleSeen.{IsModuleSeenIn}
 use Rattle.awk_run.specs.ScriptRuns.{ScriptAnswers}
 use Rattle.awk_run.specs.Seen.{IsSeenIn}
-use Rattle.awk_run.specs.declared.module_sights.ModuleWhereabouts.{ModuleWhereabouts}
+use Rattle.run_modules.specs.declared.module_sights.ModuleWhereabouts.{ModuleWhereabouts}
 use Rattle.run_report.specs.declared.counts.RunCounts.{RunCounts}
-use Rattle.run_report.specs.declared.end.Refusal.TheVariants.{Compile}
 use Rattle.run_report.specs.declared.end.RunEnd.{RunEnd}
-use Rattle.run_report.specs.declared.end.RunEnd.TheVariants.{Refused}
-use Rattle.run_report.specs.declared.end.RunEnd.TheVariants as end
 use Rattle.run_report.specs.declared.whereabouts.Whereabouts.{Whereabouts}
-use Rattle.run_tasks.specs.Jobs.{files_of_task, job_of_task}
-use Rattle.script_compiler.specs.Refusals.{IsNotCompiled}
-use Rattle.script_lines.specs.Lined.{IsNotLined}
+use Rattle.task_pages.specs.Jobs.{files_of_task, job_of_task}
 
 -- nothing is told of real files, and nothing of them behind a fence
 abbrev pub Told : Type 0
@@ -58,15 +53,3 @@ CountsText task script environment counts = IfSome counts (IsCountedIn Told scri
 -- what is told of where the module of these bytes was, if anything is
 abbrev pub SeesModule : Task → List ℕ → List (List ℕ × List ℕ) → Option ModuleWhereabouts → Type 0
 SeesModule task bytes environment found = IfSome found (IsModuleSeenIn Told bytes (job_of_task task environment) task.steps (files_of_task task))
-
--- the refusal of the compiler, or want of memory
-abbrev pub IsUncompiled : List ℕ → RunEnd → Type 0
-IsUncompiled bytes (Refused (Compile fault)) = IsNotCompiled bytes fault
-IsUncompiled bytes end.NoMemory = Unit {0}
-IsUncompiled bytes _ = ⊥
-
--- the same of a script that is compiled with its lines; the module may have no room for them
-abbrev pub IsUnlined : List ℕ → RunEnd → Type 0
-IsUnlined bytes (Refused (Compile fault)) = IsNotLined bytes fault
-IsUnlined bytes end.NoMemory = Unit {0}
-IsUnlined bytes _ = ⊥

@@ -1,18 +1,17 @@
 //! Scripts of tasks, run and counted.
 ghost use Rattle.std.specs.Prelude.{◌≡◌, map, IfSome};
 ghost use Rattle.awk_run.specs.Counted.{IsCountedIn};
-ghost use Rattle.awk_run.specs.ModuleRun.{IsGiven};
+ghost use Rattle.run_modules.specs.ModuleRun.{IsGiven};
 ghost use Rattle.awk_run.specs.ScriptRuns.{ScriptAnswers};
 ghost use Rattle.host_texts.specs.NameForms.{pair_of};
-ghost use Rattle.run_tasks.specs.Jobs.{fence_of_task, job_of_task};
+ghost use Rattle.task_pages.specs.Jobs.{fence_of_task, job_of_task};
 ghost use Rattle.run_tasks.specs.Outlets.{IsGivenOut};
 ghost use Rattle.run_tasks.specs.Runs.{CountsText, GivesText, RunsText};
-ghost use Rattle.world_core.specs.Traces.{IsHandedOn};
+ghost use Rattle.world_core.specs.TraceParts.{IsHandedOn};
 ghost use Rattle.world_os.specs.Behind.{behind};
 ghost use Rattle.world_os.specs.Fences.{form_of, lets_read};
 
 use crate::fences::os_world_of;
-use crate::job::job_on;
 use crate::sandbox::Surroundings;
 use awk_run::{RunCounts, count_script};
 use command_line::Task;
@@ -22,6 +21,7 @@ use std::alloc::Global;
 use std::hash::RandomState;
 use std::io::{Read, Write};
 use std::rt::Files;
+use task_pages::job_on;
 use world_core::World;
 use world_os::{FencedWorld, FileFence};
 

@@ -1,6 +1,6 @@
 //! What a task may open, read and write.
 ghost use Rattle.std.specs.Prelude.{◌≡◌, [], IfOk};
-ghost use Rattle.run_tasks.specs.Jobs.{fence_of_task};
+ghost use Rattle.task_pages.specs.Jobs.{fence_of_task};
 ghost use Rattle.world_os.specs.Fences.{form_of};
 ghost use Rattle.world_os.specs.Limits.{StartsWith};
 

@@ -1,10 +1,10 @@
 //! The module of a script, with the lines of its statements.
 ghost use Rattle.std.specs.Prelude.{IfErr, IfOk};
-ghost use Rattle.run_tasks.specs.Runs.{IsUnlined};
+ghost use Rattle.run_tasks.specs.Uncompiled.{IsUnlined};
 ghost use Rattle.script_compiler.specs.Compiled.{IsCompiled};
 ghost use Rattle.script_lines.specs.Lined.{IsLined};
 
-use awk_run::{CompileFault, Refusal, RunEnd};
+use run_report::{CompileFault, Refusal, RunEnd};
 use script_lines::compile_with_lines;
 use std::alloc::Global;
 
@@ -12,7 +12,7 @@ use std::alloc::Global;
 ///
 /// # Errors
 ///
-/// How a run of the script would end: with the refusal of `awk_run::compile`, or for want of memory; or `TooLarge` where the module has no room for them.
+/// How a run of the script would end: with the refusal of `script_compiler::compile`, or for want of memory; or `TooLarge` where the module has no room for them.
 pub fn compiled_with_lines(alloc: Global, script: &[u8]) -> Result<Vec<u8>, RunEnd>
     ensures ok { IfOk result (λ bytes. IsCompiled script.now bytes.items) }
     ensures lined { IfOk result (λ bytes. IsLined script.now bytes.items) }

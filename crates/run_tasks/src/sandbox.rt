@@ -1,27 +1,26 @@
 //! What a task runs: its script or a module, over real files, behind its fence.
-ghost use Rattle.std.specs.Prelude.{◌≡◌, map, IfErr, IfOk, IfSome};
-ghost use Rattle.awk_run.specs.ModuleRun.{Answers, IsGiven};
+ghost use Rattle.std.specs.Prelude.{◌≡◌, map, IfSome};
+ghost use Rattle.run_modules.specs.ModuleRun.{Answers, IsGiven};
 ghost use Rattle.awk_run.specs.ScriptRuns.{ScriptAnswers};
 ghost use Rattle.awk_run.specs.Seen.{IsSeenIn};
 ghost use Rattle.host_texts.specs.NameForms.{pair_of};
-ghost use Rattle.run_tasks.specs.Jobs.{fence_of_task, job_of_task};
+ghost use Rattle.task_pages.specs.Jobs.{fence_of_task, job_of_task};
 ghost use Rattle.run_tasks.specs.Outlets.{IsGivenOut};
-ghost use Rattle.run_tasks.specs.Runs.{GivesModule, GivesText, IsUncompiled, RunsModule, RunsScript, SeesScript};
-ghost use Rattle.script_compiler.specs.Compiled.{IsCompiled};
-ghost use Rattle.world_core.specs.Traces.{IsHandedOn};
+ghost use Rattle.run_tasks.specs.Runs.{GivesModule, GivesText, RunsModule, RunsScript, SeesScript};
+ghost use Rattle.world_core.specs.TraceParts.{IsHandedOn};
 ghost use Rattle.world_os.specs.Behind.{behind};
 ghost use Rattle.world_os.specs.Fences.{form_of, lets_read};
 
 use crate::fences::os_world_of;
-use crate::job::job_on;
-use awk_run::{CompileFault, Whereabouts, compile, run_module, run_script, run_script_where};
+use awk_run::{Whereabouts, run_module, run_script, run_script_where};
 use command_line::Task;
 use host_texts::NamedText;
-use run_report::{Refusal, RunEnd};
+use run_report::RunEnd;
 use std::alloc::Global;
 use std::hash::RandomState;
 use std::io::{Read, Write};
 use std::rt::Files;
+use task_pages::job_on;
 use world_core::World;
 use world_os::{FencedWorld, FileFence};
 
@@ -187,21 +186,5 @@ pub fn module_end<R: Files, I: Read + Drop, O: Write + Drop, E: Write + Drop>(
             end
         }
         Err(_) => RunEnd::NoMemory,
-    }
-}
-
-/// The module of a script.
-///
-/// # Errors
-///
-/// How a run of the script would end: with the refusal of `awk_run::compile`, or for want of memory.
-pub fn compiled(alloc: Global, script: &[u8]) -> Result<Vec<u8>, RunEnd>
-    ensures ok { IfOk result (λ bytes. IsCompiled script.now bytes.items) }
-    ensures err { IfErr result (IsUncompiled script.now) }
-{
-    match compile(alloc, script) {
-        Ok(module) => Ok(module),
-        Err(CompileFault::NoMemory) => Err(RunEnd::NoMemory),
-        Err(fault) => Err(RunEnd::Refused(Refusal::Compile(fault))),
     }
 }

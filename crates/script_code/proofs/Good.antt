@@ -3,7 +3,7 @@ use Rattle.std.proofs.Common.{◌≡◌, ℕ, ◌^◌, Bool, true, false, List, 
 use Rattle.std.proofs.lemmas.Bool.{and_parts}
 use Rattle.std.specs.Prelude.{nat_lt, nat_le, unsigned_abs}
 use Rattle.std.specs.List.{list_all}
-use Rattle.sem_primitives.specs.Constants.{special_number, flag_number}
+use Rattle.sem_primitives.specs.ConstantNumbers.{special_number, flag_number}
 use Rattle.sem_primitives.specs.declared.constants.Special.{Special}
 use Rattle.sem_primitives.specs.declared.constants.Special.TheVariants.{Argc}
 use Rattle.sem_primitives.specs.declared.sorts.Sort.{Sort}

@@ -5,7 +5,8 @@ use Rattle.awk_grammar.specs.Trees.{Stmts, Item, Pattern}
 use Rattle.awk_grammar.specs.Trees as item
 use Rattle.awk_grammar.specs.Marks.{marks}
 use Rattle.sem_scripts.specs.Names.{Name, Function, Resolved, Scope}
-use Rattle.sem_scripts.specs.Items.{top, print_record, pattern_ranges, range_count}
+use Rattle.sem_scripts.specs.Items.{top, print_record, pattern_ranges}
+use Rattle.sem_scripts.specs.Ranges.{range_count}
 use Rattle.mid_program.specs.Texts.{texts_in, all_texts, stmt_texts, stmts_texts, pattern_texts, item_texts, items_texts, functions_texts, texts_of_script}
 use Rattle.mid_program.specs.Mid.{Step, Block, Declared, Routine}
 use Rattle.mid_program.specs.Sorted.{Context, announced_names, context_of, routines_sorted, sorted, step_sorted, steps_sorted, is_sorted, IsSorted}

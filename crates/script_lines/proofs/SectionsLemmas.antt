@@ -6,7 +6,7 @@ use Rattle.script_lines.specs.Lined.{IsNotLined, IsPastRoom, IsUnlined, table_of
 use Rattle.awk_grammar.specs.Trees.{Item}
 use Rattle.awk_parse.specs.Parsing.{IsParsed}
 use Rattle.awk_tokens.specs.Cutting.{IsTokens, Spelled}
-use Rattle.script_lines.specs.Lines.{FunctionForm}
+use Rattle.script_places.specs.Lines.{FunctionForm}
 use Rattle.wasm_types.specs.ModuleGrammar.{IsModule}
 use Rattle.wasm_types.specs.Syntax.{ModuleForm}
 

@@ -5,7 +5,7 @@ use Rattle.std.specs.Prelude.{codes, slice_get, unwrap_or}
 use Rattle.awk_grammar.specs.Trees.{Item}
 use Rattle.awk_tokens.specs.Cutting.{Spelled}
 use Rattle.awk_tree.specs.Lines.{function_names, line_at, line_of, places_in}
-use Rattle.script_lines.specs.Lines.{FunctionForm, line_in, line_told, name_in}
+use Rattle.script_places.specs.Lines.{FunctionForm, line_in, line_told, name_in}
 use Rattle.script_lines.specs.Lined.{line_number, row_of, rows_from, table_of, told_line}
 
 module _ (tokens : List Spelled) (script : List Item) where

@@ -1,4 +1,1 @@
-pub mod Lines
-pub mod Reading
-pub mod LineExamples
 pub mod Lined

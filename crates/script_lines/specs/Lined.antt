@@ -4,8 +4,8 @@ use Rattle.awk_grammar.specs.Trees.{Item}
 use Rattle.awk_parse.specs.Parsing.{IsParsed}
 use Rattle.awk_tokens.specs.Cutting.{IsTokens, Spelled}
 use Rattle.awk_tree.specs.Lines.{function_names, line_at, places_in}
-use Rattle.script_lines.specs.Lines.{FunctionForm, line_told, lines_text}
-use Rattle.script_lines.specs.Reading.{table_in}
+use Rattle.script_places.specs.Lines.{FunctionForm, line_told, lines_text}
+use Rattle.script_places.specs.Reading.{table_in}
 use Rattle.module_writer.specs.Names.{names_text}
 use Rattle.run_report.specs.declared.compile_fault.CompileFault.{CompileFault}
 use Rattle.run_report.specs.declared.compile_fault.CompileFault.TheVariants.{NoMemory, TooLarge}

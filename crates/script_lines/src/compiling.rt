@@ -1,19 +1,18 @@
 //! From a script to the bytes of a module, with its names and lines.
 ghost use Rattle.std.specs.Prelude.{◌≡◌, ◌+◌, ◌<◌, ◌≤◌, ◌^◌, ◌⊎◌, IfErr, IfOk, MatchOption, Some, length, map};
-ghost use Rattle.script_lines.specs.Lines.{form_of};
-ghost use Rattle.script_lines.specs.Reading.{table_in};
+ghost use Rattle.script_places.specs.Lines.{form_of};
+ghost use Rattle.script_places.specs.Reading.{table_in};
 ghost use Rattle.script_compiler.specs.Compiled.{IsCompiled};
 ghost use Rattle.script_lines.specs.Lined.{IsLined, IsNotLined, IsUnlined, lined, refused};
 ghost use Rattle.wasm_types.specs.ModuleGrammar.{IsModule};
 ghost use Rattle.wasm_types.specs.Syntax.{ModuleForm};
 ghost use Rattle.wasm_types.specs.Profile.{most_module_bytes};
 
-use crate::module_table::FunctionLines;
 use crate::table::table_of;
-use crate::writing::with_lines;
 use module_decoder::decode;
 use module_writer::{WriteFault, with_names};
 use script_compiler::{CompileFault, compile};
+use script_places::{FunctionLines, with_lines};
 use std::alloc::{AllocError, Global};
 
 /// More than a module has of anything.

@@ -3,7 +3,7 @@ ghost use Rattle.std.specs.Prelude.{◌≡◌, ◌≤◌, List, length, slice_ge
 ghost use Rattle.awk_grammar.specs.Trees.{Item};
 ghost use Rattle.awk_tokens.specs.Cutting.{Spelled};
 ghost use Rattle.awk_tree.specs.Lines.{function_names, line_of};
-ghost use Rattle.script_lines.specs.Lines.{line_in, name_in};
+ghost use Rattle.script_places.specs.Lines.{line_in, name_in};
 ghost use Rattle.script_lines.specs.Lined.{table_of, told_line};
 
 /// The table of a script's module tells of each of its functions the name that it has in the script, and of a place the line that it has there.

@@ -6,13 +6,13 @@ ghost use Rattle.awk_tokens.specs.Cutting.{IsTokens, Spelled};
 ghost use Rattle.awk_tokens.specs.Views.{spelled};
 ghost use Rattle.awk_grammar.specs.Trees.{Item as ItemForm};
 ghost use Rattle.awk_tree.specs.Lines.{function_names, line_at};
-ghost use Rattle.script_lines.specs.Lines.{form_of};
+ghost use Rattle.script_places.specs.Lines.{form_of};
 ghost use Rattle.script_lines.specs.Lined.{line_number, lines_of, name_of, row_of, table_of};
 
-use crate::module_table::FunctionLines;
 use awk_parse::parse;
 use awk_tokens::{Token, tokens};
 use awk_tree::{Item, Script, function_named, places_of};
+use script_places::FunctionLines;
 use std::alloc::{AllocError, Global};
 
 /// What is written for the line of a place before which so many tokens stand.

@@ -4,3 +4,8 @@ pub mod Walking
 pub mod Tallying
 pub mod Firsts
 pub mod Listed
+pub mod Loops
+pub mod Turns
+pub mod Traces
+pub mod Found
+pub mod Long

@@ -10,7 +10,9 @@ use Rattle.awk_values.specs.declared.fault.Fault.TheVariants.{Range, Fraction, D
 use Rattle.awk_values.specs.declared.comparison.CompareOp.{CompareOp}
 use Rattle.awk_values.specs.declared.comparison.CompareOp.TheVariants.{Less, LessOrEqual, Equal, NotEqual, Greater, GreaterOrEqual}
 use Rattle.sem_primitives.specs.Numbers.{Number, number_by, number_of, number_word, number_of_word, faulted_word}
-use Rattle.sem_primitives.specs.Constants.{InConstant, constant_at, constant_number, comparison_at, comparison_number, special_at, special_number, flag_at, flag_number, fault_at, destination_at, destination_number, kind_at, kind_number}
+use Rattle.sem_primitives.specs.Constants.{InConstant, constant_at, fault_at}
+use Rattle.sem_primitives.specs.ConstantPlaces.{comparison_at, special_at, flag_at, destination_at, kind_at}
+use Rattle.sem_primitives.specs.ConstantNumbers.{constant_number, comparison_number, special_number, flag_number, destination_number, kind_number}
 use Rattle.sem_primitives.specs.declared.sorts.Constant.{Constant}
 use Rattle.sem_primitives.specs.declared.sorts.Constant.TheVariants as constant
 use Rattle.sem_primitives.specs.declared.constants.Destination.{Destination}

@@ -3,7 +3,8 @@ use Rattle.std.specs.Prelude.{◌≡◌, [], ◌∷◌, codes, true, false, Some
 use Rattle.std.specs.Fmt.{digits}
 use Rattle.awk_values.specs.declared.value.Value.TheVariants as value
 use Rattle.sem_primitives.specs.SharedState.{Shared}
-use Rattle.sem_primitives.specs.Jobs.{JobForm, shared_at_start}
+use Rattle.sem_primitives.specs.Jobs.{JobForm}
+use Rattle.sem_primitives.specs.ClosedJobs.{shared_at_start}
 use Rattle.sem_primitives.specs.ArrayMeaning.{array, keys, element}
 use Rattle.sem_primitives.specs.ExampleStates.{nothing, empty, at_start, after_call, answered}
 use Rattle.sem_primitives.specs.declared.table.Primitive.TheVariants.{NewArray, Elem, SetElem, Has, Delete, Join, Iter, IterNext, Clear}

@@ -5,7 +5,7 @@ use Rattle.awk_text.specs.Escapes.{unescaped, escaped, octal}
 use Rattle.awk_tokens.specs.Words.{keywords, builtins, left_out_words}
 use Rattle.awk_values.specs.declared.value.Value.TheVariants as value
 use Rattle.sem_primitives.specs.SharedState.{Shared}
-use Rattle.sem_primitives.specs.Jobs.{shared_at_start}
+use Rattle.sem_primitives.specs.ClosedJobs.{shared_at_start}
 use Rattle.sem_primitives.specs.Carried.{carried_out}
 use Rattle.sem_primitives.specs.InTurn.{in_turn, listed_in_turn, values_taken}
 use Rattle.sem_primitives.specs.ExampleStates.{job_of, nothing, empty, at_start, after_call}

@@ -3,7 +3,7 @@ use Rattle.std.specs.Prelude.{ℕ, ◌&&◌, nat_le, if◌then◌else◌, List, 
 use Rattle.awk_values.specs.declared.fault.Fault.{Fault}
 use Rattle.awk_values.specs.declared.fault.Fault.TheVariants.{BadEre, EreTooLarge}
 use Rattle.ere_syntax.specs.Tree.{Tree, positions, nesting, most_positions, most_ere_nesting}
-use Rattle.ere_syntax.specs.Scan.{ere_of}
+use Rattle.ere_syntax.specs.EreOf.{ere_of}
 
 abbrev pub within_limits : Tree → Result Tree Fault
 within_limits t = if nat_le (positions t) most_positions && nat_le (nesting t) most_ere_nesting then Ok t else Err EreTooLarge

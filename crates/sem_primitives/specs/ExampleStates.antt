@@ -10,7 +10,8 @@ use Rattle.world_core.specs.WorldState.{Named, Outside, Source, absent, replaced
 use Rattle.sem_primitives.specs.Numbers.{Number}
 use Rattle.sem_primitives.specs.SharedState.{Shared, shared_after}
 use Rattle.sem_primitives.specs.Sorts.{InAnswer, OrFault, Row}
-use Rattle.sem_primitives.specs.Jobs.{JobForm, shared_at_start}
+use Rattle.sem_primitives.specs.Jobs.{JobForm}
+use Rattle.sem_primitives.specs.ClosedJobs.{shared_at_start}
 use Rattle.sem_primitives.specs.Table.{arguments_of, answer_of, can_fault, meaning, listed_meaning}
 use Rattle.sem_primitives.specs.declared.table.Primitive.{Primitive}
 use Rattle.sem_primitives.specs.declared.table.Listed.{Listed}

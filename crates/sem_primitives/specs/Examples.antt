@@ -18,7 +18,8 @@ use Rattle.sem_primitives.specs.declared.table.Primitive.TheVariants.{Num, Lit, 
 use Rattle.sem_primitives.specs.declared.table.Listed.TheVariants.{Print}
 use Rattle.sem_primitives.specs.declared.constants.Destination.TheVariants as destination
 use Rattle.world_core.specs.declared.world.Ending.TheVariants.{End}
-use Rattle.sem_primitives.specs.Jobs.{JobForm, shared_at_start}
+use Rattle.sem_primitives.specs.Jobs.{JobForm}
+use Rattle.sem_primitives.specs.ClosedJobs.{shared_at_start}
 
 -- before a script without operands and without input, where the standard output has this room
 abbrev pub no_job : JobForm

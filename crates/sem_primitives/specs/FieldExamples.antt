@@ -5,7 +5,8 @@ use Rattle.awk_text.specs.Number.{numerator, denominator}
 use Rattle.awk_values.specs.declared.comparison.CompareOp.TheVariants.{Equal}
 use Rattle.awk_values.specs.declared.fault.Fault.TheVariants.{BadEre, FieldNumber, Fraction}
 use Rattle.awk_values.specs.declared.value.Value.TheVariants as value
-use Rattle.ere_syntax.specs.Scan.{table, sign_of}
+use Rattle.ere_syntax.specs.Scan.{table}
+use Rattle.ere_syntax.specs.Readers.{sign_of}
 use Rattle.sem_primitives.specs.SharedState.{Shared}
 use Rattle.sem_primitives.specs.Fields.{fields_of}
 use Rattle.sem_primitives.specs.ExampleStates.{number, at_start, after_call, answered, setting, setting_record, special, plain}

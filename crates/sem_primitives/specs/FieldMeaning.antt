@@ -6,7 +6,6 @@ use Rattle.awk_values.specs.declared.fault.Fault.TheVariants.{FieldNumber}
 use Rattle.awk_values.specs.declared.value.Value.{Value}
 use Rattle.awk_values.specs.declared.value.Value.TheVariants.{Uninit, StrNum}
 use Rattle.sem_primitives.specs.Limits.{most_fields}
-use Rattle.sem_primitives.specs.Numbers.{Number}
 use Rattle.sem_primitives.specs.SharedState.{Inner, ◌>>=◌, special_of, with_special}
 use Rattle.sem_primitives.specs.Texts.{limited}
 use Rattle.sem_primitives.specs.Fields.{fields_of}
@@ -29,9 +28,7 @@ field_number (negsuc n) = Err FieldNumber
 
 -- the record is set and its fields are split at once
 abbrev pub with_record : List ℕ → Inner → Result Inner Fault
-with_record text inner =
-    fields_of (special_text Fs inner) (special_text Rs inner) text >>= λ texts.
-    field_number (pos (length texts)) >>= λ n.
+with_record text inner = fields_of (special_text Fs inner) (special_text Rs inner) text >>= λ texts. field_number (pos (length texts)) >>= λ n.
     Ok (record inner { whole = StrNum text; fields = map StrNum texts })
 
 -- the record is made anew of its fields
@@ -65,12 +62,3 @@ set_special s v inner = Ok (with_special s v inner)
 abbrev pub done : Result Inner Fault → Result (Inner × Unit {0}) Fault
 done (Ok inner) = Ok (inner, tt)
 done (Err fault) = Err fault
-
-abbrev pub set_special_row : Special → Value → Inner → Result (Inner × Unit {0}) Fault
-set_special_row s v inner = done (set_special s v inner)
-
-abbrev pub field_row : Number → Inner → Result Value Fault
-field_row n inner = field_number n.number >>= λ k. Ok (field_of k inner)
-
-abbrev pub set_field_row : Number → Value → Inner → Result (Inner × Unit {0}) Fault
-set_field_row n v inner = field_number n.number >>= λ k. done (with_field k v inner)

@@ -10,8 +10,7 @@ use Rattle.sem_primitives.specs.Eres.{expression_of}
 
 -- what stands between fields: runs of space, tab and newline; nothing, so that each byte is a field; a byte; the matches of an expression
 pub data Separator : Type 0 where
-  Blanks : Separator
-  Nothing : Separator
+  Blanks Nothing : Separator
   Byte : ℕ → Separator
   Expression : Tree → Separator
 

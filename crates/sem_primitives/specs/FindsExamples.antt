@@ -9,7 +9,7 @@ use Rattle.world_core.specs.declared.world.Ending.TheVariants.{Fails}
 use Rattle.world_core.specs.WorldState.{Entry, Named, absent, Open, puts}
 use Rattle.sem_primitives.specs.Finds.{shut}
 use Rattle.sem_primitives.specs.SharedState.{Shared}
-use Rattle.sem_primitives.specs.InputMeaning.{to_come}
+use Rattle.sem_primitives.specs.InputParts.{to_come}
 use Rattle.sem_primitives.specs.Jobs.{Opened, shared_in}
 use Rattle.sem_primitives.specs.Table.{listed_meaning}
 use Rattle.sem_primitives.specs.ExampleStates.{job_of, after_call, after_list, answered}

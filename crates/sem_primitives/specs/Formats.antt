@@ -16,14 +16,7 @@ use Rattle.sem_primitives.specs.Texts.{has}
 
 -- what the specifier of a conversion asks for
 pub data Specifier : Type 0 where
-  Signed : Specifier
-  Octal : Specifier
-  Unsigned : Specifier
-  LowerHex : Specifier
-  UpperHex : Specifier
-  Fixed : Specifier
-  String : Specifier
-  Char : Specifier
+  Signed Octal Unsigned LowerHex UpperHex Fixed String Char : Specifier
 
 pub record Conversion : Type 0 where
   pub flags : List ℕ
@@ -46,14 +39,9 @@ is_flag c = (c == minus) || ((c == plus) || ((c == space) || ((c == hash) || (c 
 -- `d` and `i`, `o`, `u`, `x`, `X`, `f`, `s`, `c`
 abbrev pub specifier_of : ℕ → Option Specifier
 specifier_of c =
-    if (c == lower_d) || (c == lower_i) then Some Signed else
-    if c == lower_o then Some Octal else
-    if c == lower_u then Some Unsigned else
-    if c == lower_x then Some LowerHex else
-    if c == upper_x then Some UpperHex else
-    if c == lower_f then Some Fixed else
-    if c == lower_s then Some String else
-    if c == lower_c then Some Char else None
+    if (c == lower_d) || (c == lower_i) then Some Signed else if c == lower_o then Some Octal else if c == lower_u then Some Unsigned else
+    if c == lower_x then Some LowerHex else if c == upper_x then Some UpperHex else if c == lower_f then Some Fixed else
+    if c == lower_s then Some String else if c == lower_c then Some Char else None
 
 -- what the point and its digits say, and what follows them
 abbrev pub precision_at : List ℕ → Option ℕ × List ℕ
@@ -85,8 +73,7 @@ wide flags x = precise flags (value_after 0 x.0) (precision_at x.1)
 -- after a percent sign: another one stands for a percent sign
 abbrev pub conversion_at : List ℕ → Piece × List ℕ
 conversion_at [] = (Malformed, [])
-conversion_at (c ∷ cs) =
-    if c == percent then (Ordinary percent, cs)
+conversion_at (c ∷ cs) = if c == percent then (Ordinary percent, cs)
     else wide (take_while is_flag (c ∷ cs)) (digits_at (drop (length (take_while is_flag (c ∷ cs))) (c ∷ cs)))
 
 abbrev pub piece_at : ℕ → List ℕ → Piece × List ℕ

@@ -8,11 +8,12 @@ use Rattle.awk_tokens.specs.Words.{keywords, builtins, left_out_words}
 use Rattle.awk_values.specs.declared.fault.Fault.TheVariants.{BadAssignment, BadEre, Fraction, OpenInput, Range, ReadFailed}
 use Rattle.awk_values.specs.declared.value.Value.{Value}
 use Rattle.awk_values.specs.declared.value.Value.TheVariants as value
-use Rattle.ere_syntax.specs.Scan.{table, sign_of}
+use Rattle.ere_syntax.specs.Scan.{table}
+use Rattle.ere_syntax.specs.Readers.{sign_of}
 use Rattle.world_core.specs.declared.world.Ending.TheVariants.{End, Fails}
 use Rattle.world_core.specs.WorldState.{Outside}
 use Rattle.sem_primitives.specs.SharedState.{Shared}
-use Rattle.sem_primitives.specs.Jobs.{shared_at_start}
+use Rattle.sem_primitives.specs.ClosedJobs.{shared_at_start}
 use Rattle.sem_primitives.specs.Records.{first_record, Record, AtEnd, Broken}
 use Rattle.sem_primitives.specs.Assignments.{assignment_of}
 use Rattle.sem_primitives.specs.ArrayMeaning.{array, element}

@@ -76,7 +76,3 @@ shared_in job input environment = record {
   outside = kept_by environment;
   output = [];
 }
-
--- where nobody else changes what names hold
-abbrev pub shared_at_start : JobForm → Source → Outside → Shared
-shared_at_start job input outside = shared_in job input (Closed outside)

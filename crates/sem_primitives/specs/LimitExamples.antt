@@ -10,7 +10,7 @@ use Rattle.sem_primitives.specs.FieldMeaning.{joined, special_text, with_fields,
 use Rattle.sem_primitives.specs.Formats.{sized}
 use Rattle.sem_primitives.specs.Records.{Record, of_cut, of_rest}
 use Rattle.sem_primitives.specs.declared.constants.Special.TheVariants.{Argc, Ofs, Subsep}
-use Rattle.sem_primitives.specs.ArrayMeaning.{join_row}
+use Rattle.sem_primitives.specs.Rows.{join_row}
 use Rattle.sem_primitives.specs.Jobs.{fault_of_job}
 use Rattle.sem_primitives.specs.SharedState.{Shared, SomeFile}
 use Rattle.sem_primitives.specs.TextMeaning.{replaced, substituted_by}

@@ -7,7 +7,7 @@ use Rattle.awk_values.specs.declared.value.Value.TheVariants as value
 use Rattle.world_core.specs.declared.world.Ending.TheVariants.{End}
 use Rattle.world_core.specs.WorldState.{Standard, Named, absent, replaced, Open, puts}
 use Rattle.sem_primitives.specs.SharedState.{Shared}
-use Rattle.sem_primitives.specs.Jobs.{shared_at_start}
+use Rattle.sem_primitives.specs.ClosedJobs.{shared_at_start}
 use Rattle.sem_primitives.specs.Table.{listed_meaning}
 use Rattle.sem_primitives.specs.ExampleStates.{job_of, nothing, empty, with_file, at_start, after_call, after_list, answered, setting}
 use Rattle.sem_primitives.specs.declared.table.Primitive.TheVariants.{Close, Flush, GetlineFile, GetlineVarFile, Line}

@@ -1,19 +1,16 @@
 -- What printing means (POSIX.1-2017 awk, "Output Statements").
-use Rattle.std.specs.Prelude.{ℕ, ◌+◌, Bool, true, false, cond, if◌then◌else◌, nat_le, List, [], ◌∷◌, ◌++◌, length, take, Option, Some, None, Result, Ok, Err}
+use Rattle.std.specs.Prelude.{ℕ, ◌+◌, Bool, true, false, cond, nat_le, List, [], ◌∷◌, ◌++◌, length, take, Option, Some, None, Result, Ok, Err}
 use Rattle.awk_values.specs.Values.{text_of_value}
 use Rattle.awk_values.specs.declared.fault.Fault.{Fault}
 use Rattle.awk_values.specs.declared.fault.Fault.TheVariants.{OpenOutput, TooManyStreams, WriteFailed}
 use Rattle.awk_values.specs.declared.value.Value.{Value}
-use Rattle.awk_values.specs.declared.value.Value.TheVariants.{Text}
 use Rattle.world_core.specs.WorldState.{Target, Standard, Named, Action, Open, after, free, puts}
 use Rattle.sem_primitives.specs.Limits.{most_streams}
-use Rattle.sem_primitives.specs.SharedState.{Inner, Shared, HostResult, ◌>>=◌}
+use Rattle.sem_primitives.specs.SharedState.{Inner, Shared, HostResult}
 use Rattle.sem_primitives.specs.Finds.{observed_by, seen}
 use Rattle.sem_primitives.specs.Texts.{same_text}
 use Rattle.sem_primitives.specs.FieldMeaning.{joined, special_text}
 use Rattle.sem_primitives.specs.Formats.{formatted}
-use Rattle.sem_primitives.specs.declared.answers.StreamAnswer.{StreamAnswer}
-use Rattle.sem_primitives.specs.declared.answers.StreamAnswer.TheVariants as stream
 use Rattle.sem_primitives.specs.declared.constants.Destination.{Destination}
 use Rattle.sem_primitives.specs.declared.constants.Destination.TheVariants as destination
 use Rattle.sem_primitives.specs.declared.constants.Special.TheVariants.{Ofs, Ors}
@@ -104,29 +101,17 @@ operands_of destination.Standard values = values
 operands_of destination.Emptied values = but_last values
 operands_of destination.Appended values = but_last values
 
-abbrev pub print_row : Destination → List Value → Shared → HostResult (Result (Unit {0}) Fault)
-print_row to values state = put_text to (file_name to values) (printed state.inner (operands_of to values)) state
-
 -- the first value is the format
 abbrev pub formatted_values : List Value → Result (List ℕ) Fault
 formatted_values [] = Ok []
 formatted_values (format ∷ values) = formatted (text_of_value format) values
-
-abbrev pub sprintf_row : List Value → Result Value Fault
-sprintf_row values = formatted_values values >>= λ text. Ok (Text text)
 
 -- a format's fault comes before the file is opened
 abbrev pub printf_by : Result (List ℕ) Fault → Destination → List ℕ → Shared → HostResult (Result (Unit {0}) Fault)
 printf_by (Ok text) to name state = put_text to name text state
 printf_by (Err fault) to name state = refused fault state
 
-abbrev pub printf_row : Destination → List Value → Shared → HostResult (Result (Unit {0}) Fault)
-printf_row to values state = printf_by (formatted_values (operands_of to values)) to (file_name to values) state
-
 -- What is printed goes out at once, so a flush changes nothing: all is out where the name is written to. The empty name says all names.
 abbrev pub all_out : List ℕ → List (List ℕ) → Bool
 all_out [] ws = true
 all_out (c ∷ cs) ws = is_writing (c ∷ cs) ws
-
-abbrev pub flush_row : Value → Inner → StreamAnswer
-flush_row name inner = if all_out (text_of_value name) inner.writers then stream.Done else stream.NotOpen

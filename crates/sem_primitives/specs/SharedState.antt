@@ -4,10 +4,10 @@ use Rattle.awk_values.specs.declared.fault.Fault.{Fault}
 use Rattle.awk_values.specs.declared.value.Value.{Value}
 use Rattle.awk_values.specs.declared.value.Value.TheVariants.{Uninit, Num, Text}
 use Rattle.world_core.specs.WorldState.{Outside, Action, Entry, Source, after}
-use Rattle.sem_primitives.specs.Constants.{special_number}
+use Rattle.sem_primitives.specs.ConstantNumbers.{special_number}
 use Rattle.sem_primitives.specs.declared.constants.NameKind.{NameKind}
 use Rattle.sem_primitives.specs.declared.constants.Special.{Special}
-use Rattle.sem_primitives.specs.declared.constants.Special.TheVariants.{Argc, Convfmt, Filename, Fnr, Fs, Nf, Nr, Ofmt, Ofs, Ors, Rlength, Rs, Rstart, Subsep}
+use Rattle.sem_primitives.specs.declared.constants.Special.TheVariants.{Argc, Convfmt, Filename, Fs, Nf, Ofmt, Ofs, Ors, Rlength, Rs, Subsep}
 
 -- an array: its keys and their values, in the order of their insertion
 abbrev pub Pairs : Type 0
@@ -21,17 +21,14 @@ abbrev pub specials_at_start : ℕ → Specials
 specials_at_start operands Argc = Num (pos (operands + 1))
 specials_at_start operands Convfmt = Text (codes "%.6g")
 specials_at_start operands Filename = Uninit
-specials_at_start operands Fnr = Num (pos 0)
 specials_at_start operands Fs = Text (codes " ")
-specials_at_start operands Nf = Num (pos 0)
-specials_at_start operands Nr = Num (pos 0)
 specials_at_start operands Ofmt = Text (codes "%.6g")
 specials_at_start operands Ofs = Text (codes " ")
 specials_at_start operands Ors = Text (10 ∷ [])
 specials_at_start operands Rlength = Num (neg_ℤ (pos 1))
 specials_at_start operands Rs = Text (10 ∷ [])
-specials_at_start operands Rstart = Num (pos 0)
 specials_at_start operands Subsep = Text (28 ∷ [])
+specials_at_start operands _ = Num (pos 0)
 
 -- what the main input reads
 pub data MainReader : Type 0 where
@@ -40,9 +37,7 @@ pub data MainReader : Type 0 where
 
 -- whether an operand named a file so far, or the standard input follows the operands, of which none did
 pub data Operands : Type 0 where
-  NoFile : Operands
-  SomeFile : Operands
-  NoneLeft : Operands
+  NoFile SomeFile NoneLeft : Operands
 
 -- the main input (POSIX.1-2017 awk, "INPUT FILES"): what is left of the standard input, the number of the next operand, what is read now;
 -- once its end was told it is ended

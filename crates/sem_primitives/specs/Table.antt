@@ -1,17 +1,25 @@
 -- The table of primitives: for each the sorts of its arguments, of its answer, whether it may fault, and its meaning.
-use Rattle.std.specs.Prelude.{Bool, true, false, List, [], ◌∷◌, Err, Result}
-use Rattle.awk_values.specs.Values.{truth_of_value}
+use Rattle.std.specs.Prelude.{Bool, true, false, List, [], ◌∷◌, Err, Result, if◌then◌else◌, ◌++◌, length, Ok, map, get_or, pos, None, is_some, ◌&&◌, ◌+ℤ◌, int_le, int_lt}
+use Rattle.awk_values.specs.Values.{truth_of_value, text_of_value, truncated_of_value}
 use Rattle.awk_values.specs.declared.fault.Fault.{Fault}
 use Rattle.awk_values.specs.declared.value.Value.{Value}
 use Rattle.awk_values.specs.declared.value.Value.TheVariants as value
 use Rattle.sem_primitives.specs.Sorts.{Row, InAnswer, OrFault}
-use Rattle.sem_primitives.specs.SharedState.{Shared, HostResult, gives, changes, settles, special_of}
-use Rattle.sem_primitives.specs.ValueMeaning.{number_of_row, truncated_row, comparison_row, concat_row, power_row}
-use Rattle.sem_primitives.specs.FieldMeaning.{set_special_row, field_row, set_field_row}
-use Rattle.sem_primitives.specs.ArrayMeaning.{new_array_row, element_row, set_element_row, has_row, delete_row, join_row, iterate_row, next_key_row, clear_row}
-use Rattle.sem_primitives.specs.TextMeaning.{length_row, matches_row, match_row, substitute_row, substituted_row, split_row, substr_row, substr_from_row, index_row, lower_row, upper_row}
-use Rattle.sem_primitives.specs.InputMeaning.{next_main_row, getline_row, getline_line_row, getline_file_row, getline_line_file_row, line_row, declare_row, start_assign_row, pending_name_row, pending_value_row, begin_end_row, close_row, next_file_row}
-use Rattle.sem_primitives.specs.OutputMeaning.{sprintf_row, print_row, printf_row, flush_row}
+use Rattle.sem_primitives.specs.SharedState.{Shared, HostResult, gives, changes, settles, special_of, ◌>>=◌}
+use Rattle.sem_primitives.specs.ValueMeaning.{number_of_row, power_row, within_limit}
+use Rattle.sem_primitives.specs.FieldMeaning.{special_text, field_number, with_field, field_of, set_special, done}
+use Rattle.sem_primitives.specs.ArrayMeaning.{element, stored, without, keys, with_array, found, visited, array}
+use Rattle.sem_primitives.specs.TextMeaning.{match_row, substitute_row, split_row, chosen, place_of, lower, upper, given}
+use Rattle.sem_primitives.specs.InputMeaning.{close_row, gives_up, as_record, as_line, next_of, getline_by, getline_file_by, name_of, value_of}
+use Rattle.sem_primitives.specs.MainInput.{start_assign_row, main_input}
+use Rattle.sem_primitives.specs.OutputMeaning.{printed, put_text, file_name, operands_of, formatted_values, printf_by, all_out}
+use Rattle.awk_values.specs.Comparison.{comparison}
+use Rattle.sem_primitives.specs.Numbers.{outcome_of}
+use Rattle.sem_primitives.specs.declared.constants.Special.TheVariants.{Subsep}
+use Rattle.sem_primitives.specs.Texts.{counted}
+use Rattle.sem_primitives.specs.FirstMatch.{has_match}
+use Rattle.sem_primitives.specs.Eres.{expression_of}
+use Rattle.sem_primitives.specs.declared.answers.StreamAnswer.TheVariants as stream
 use Rattle.sem_primitives.specs.declared.sorts.Sort.TheVariants as sort
 use Rattle.sem_primitives.specs.declared.sorts.Constant.TheVariants as constant
 use Rattle.sem_primitives.specs.declared.sorts.Argument.{Argument}
@@ -98,50 +106,52 @@ meaning Lit (text, _) state = gives state (value.Text text)
 meaning Uninit _ state = gives state value.Uninit
 meaning Dup (v, _) state = gives state v
 meaning ToNum (v, _) state = gives state (number_of_row v)
-meaning IntOf (v, _) state = gives state (truncated_row v)
+meaning IntOf (v, _) state = gives state (outcome_of (truncated_of_value v))
 meaning Truth (v, _) state = gives state (truth_of_value v)
-meaning Compare (operator, (left, (right, _))) state = gives state (comparison_row operator left right)
-meaning Concat (left, (right, _)) state = gives state (concat_row left right)
+meaning Compare (operator, (left, (right, _))) state = gives state (comparison left right operator)
+meaning Concat (left, (right, _)) state = gives state (within_limit (text_of_value left ++ text_of_value right))
 meaning Pow (base, (exponent, _)) state = gives state (power_row base exponent)
 meaning Fail (fault, _) state = gives state (Err fault)
 meaning GetSpecial (special, _) state = gives state (special_of state.inner special)
-meaning SetSpecial (special, (v, _)) state = settles state (set_special_row special v state.inner)
-meaning Field (n, _) state = gives state (field_row n state.inner)
-meaning SetField (n, (v, _)) state = settles state (set_field_row n v state.inner)
-meaning NewArray _ state = changes (new_array_row state.inner)
-meaning Elem (array, (key, _)) state = changes (element_row array key state.inner)
-meaning SetElem (array, (key, (v, _))) state = changes (set_element_row array key v state.inner)
-meaning Has (array, (key, _)) state = gives state (has_row array key state.inner)
-meaning Delete (array, (key, _)) state = changes (delete_row array key state.inner)
-meaning Join (left, (right, _)) state = gives state (join_row left right state.inner)
-meaning Iter (array, _) state = changes (iterate_row array state.inner)
-meaning IterNext (iterator, _) state = changes (next_key_row iterator state.inner)
-meaning Length (text, _) state = gives state (length_row text)
-meaning Matches (text, (ere, _)) state = gives state (matches_row text ere)
+meaning SetSpecial (special, (v, _)) state = settles state (done (set_special special v state.inner))
+meaning Field (n, _) state = gives state (field_number n.number >>= λ k. Ok (field_of k state.inner))
+meaning SetField (n, (v, _)) state = settles state (field_number n.number >>= λ k. done (with_field k v state.inner))
+meaning NewArray _ state = changes (record state.inner { arrays = state.inner.arrays ++ ([] ∷ []) }, length state.inner.arrays)
+meaning Elem (a, (key, _)) state = changes (found a (text_of_value key) state.inner (element (text_of_value key) (array a state.inner)))
+meaning SetElem (a, (key, (v, _))) state = changes (with_array a (stored (text_of_value key) v (array a state.inner)) state.inner, tt)
+meaning Has (a, (key, _)) state = gives state (is_some (element (text_of_value key) (array a state.inner)))
+meaning Delete (a, (key, _)) state = changes (with_array a (without (text_of_value key) (array a state.inner)) state.inner, tt)
+meaning Join (left, (right, _)) state = gives state (within_limit (text_of_value left ++ (special_text Subsep state.inner ++ text_of_value right)))
+meaning Iter (a, _) state = changes (record state.inner { iterators = state.inner.iterators ++ (keys (array a state.inner) ∷ []) }, length state.inner.iterators)
+meaning IterNext (iterator, _) state = changes (visited iterator state.inner (get_or state.inner.iterators iterator []))
+meaning Length (text, _) state = gives state (counted (length (text_of_value text)))
+meaning Matches (text, (ere, _)) state = gives state (expression_of (text_of_value ere) >>= λ t. Ok (has_match t (text_of_value text)))
 meaning Match (text, (ere, _)) state = settles state (match_row text ere state.inner)
 meaning Sub (ere, (replacement, (target, (all, _)))) state = settles state (substitute_row ere replacement target all state.inner)
-meaning SubResult _ state = changes (substituted_row state.inner)
+meaning SubResult _ state = changes (record state.inner { substituted = None }, given state.inner.substituted)
 meaning Split (text, (array, (separator, (is_ere, _)))) state = settles state (split_row text array separator is_ere state.inner)
-meaning Substr (text, (start, (count, _))) state = gives state (substr_row text start count)
-meaning SubstrFrom (text, (start, _)) state = gives state (substr_from_row text start)
-meaning Index (text, (part, _)) state = gives state (index_row text part)
-meaning Lower (text, _) state = gives state (lower_row text)
-meaning Upper (text, _) state = gives state (upper_row text)
-meaning NextMain _ state = settles state (next_main_row state.outside state.inner)
-meaning Getline _ state = settles state (getline_row state.outside state.inner)
-meaning GetlineVar _ state = settles state (getline_line_row state.outside state.inner)
-meaning GetlineFile (name, _) state = settles state (getline_file_row name state.outside state.inner)
-meaning GetlineVarFile (name, _) state = settles state (getline_line_file_row name state.outside state.inner)
-meaning Line _ state = changes (line_row state.inner)
-meaning Declare (name, (kind, _)) state = changes (declare_row name kind state.inner)
+-- the bytes at the places from the start on, and below the start and the count
+meaning Substr (text, (start, (count, _))) state =
+    gives state (value.Text (chosen (λ p. int_le start.number (pos p) && int_lt (pos p) (start.number +ℤ count.number)) 1 (text_of_value text)))
+meaning SubstrFrom (text, (start, _)) state = gives state (value.Text (chosen (λ p. int_le start.number (pos p)) 1 (text_of_value text)))
+meaning Index (text, (part, _)) state = gives state (counted (place_of (text_of_value text) (text_of_value part)))
+meaning Lower (text, _) state = gives state (value.Text (map lower (text_of_value text)))
+meaning Upper (text, _) state = gives state (value.Text (map upper (text_of_value text)))
+meaning NextMain _ state = settles state (main_input state.outside state.inner >>= λ x. next_of x)
+meaning Getline _ state = settles state (getline_by state.inner.in_end as_record state.outside state.inner)
+meaning GetlineVar _ state = settles state (getline_by state.inner.in_end as_line state.outside state.inner)
+meaning GetlineFile (name, _) state = settles state (getline_file_by as_record name state.outside state.inner)
+meaning GetlineVarFile (name, _) state = settles state (getline_file_by as_line name state.outside state.inner)
+meaning Line _ state = changes (record state.inner { line = None }, given state.inner.line)
+meaning Declare (name, (kind, _)) state = changes (record state.inner { names = state.inner.names ++ ((name, kind) ∷ []) }, tt)
 meaning StartAssign _ state = settles state (start_assign_row state.inner)
-meaning PendingName _ state = gives state (pending_name_row state.inner)
-meaning PendingValue _ state = changes (pending_value_row state.inner)
-meaning BeginEnd _ state = changes (begin_end_row state.inner)
+meaning PendingName _ state = gives state (name_of state.inner.pending)
+meaning PendingValue _ state = changes (record state.inner { pending = None }, given (value_of state.inner.pending))
+meaning BeginEnd _ state = changes (record state.inner { in_end = true }, tt)
 meaning Close (name, _) state = changes (close_row name state.inner)
-meaning NextFile _ state = changes (next_file_row state.inner)
-meaning Clear (array, _) state = changes (clear_row array state.inner)
-meaning Flush (name, _) state = gives state (flush_row name state.inner)
+meaning NextFile _ state = changes (gives_up state.inner.main.reading state.inner, tt)
+meaning Clear (a, _) state = changes (with_array a [] state.inner, tt)
+meaning Flush (name, _) state = gives state (if all_out (text_of_value name) state.inner.writers then stream.Done else stream.NotOpen)
 
 -- of those that take a list of values
 abbrev pub listed_answer : Listed → Answer
@@ -150,6 +160,6 @@ listed_answer (Print to) = answer.Done
 listed_answer (Printf to) = answer.Done
 
 abbrev pub listed_meaning : (l : Listed) → List Value → Shared → HostResult (Result (InAnswer (listed_answer l)) Fault)
-listed_meaning Sprintf values state = gives state (sprintf_row values)
-listed_meaning (Print to) values state = print_row to values state
-listed_meaning (Printf to) values state = printf_row to values state
+listed_meaning Sprintf values state = gives state (formatted_values values >>= λ text. Ok (value.Text text))
+listed_meaning (Print to) values state = put_text to (file_name to values) (printed state.inner (operands_of to values)) state
+listed_meaning (Printf to) values state = printf_by (formatted_values (operands_of to values)) to (file_name to values) state

@@ -4,7 +4,8 @@ use Rattle.std.specs.Fmt.{digits}
 use Rattle.awk_values.specs.declared.fault.Fault.TheVariants.{BadEre}
 use Rattle.awk_values.specs.declared.value.Value.{Value}
 use Rattle.awk_values.specs.declared.value.Value.TheVariants as value
-use Rattle.ere_syntax.specs.Scan.{table, sign_of}
+use Rattle.ere_syntax.specs.Scan.{table}
+use Rattle.ere_syntax.specs.Readers.{sign_of}
 use Rattle.sem_primitives.specs.SharedState.{Shared}
 use Rattle.sem_primitives.specs.ArrayMeaning.{array}
 use Rattle.sem_primitives.specs.TextMeaning.{replacement}

@@ -1,5 +1,5 @@
 -- What primitives on texts mean (POSIX.1-2017 awk, "String Functions").
-use Rattle.std.specs.Prelude.{ℕ, zero, suc, ◌+◌, ◌-◌, ◌==◌, ◌||◌, ◌&&◌, nat_le, Bool, true, false, if◌then◌else◌, List, [], ◌∷◌, ◌++◌, map, length, take, drop, slice_range, Option, Some, None, Result, Ok, ℤ, pos, neg_ℤ, ◌+ℤ◌, int_le, int_lt}
+use Rattle.std.specs.Prelude.{ℕ, zero, suc, ◌+◌, ◌-◌, ◌==◌, ◌||◌, ◌&&◌, nat_le, Bool, true, false, if◌then◌else◌, List, [], ◌∷◌, ◌++◌, length, take, drop, slice_range, Option, Some, None, Result, Ok, ℤ, pos, neg_ℤ}
 use Rattle.awk_text.specs.Bytes.{upper_a, upper_z, lower_a, lower_z}
 use Rattle.awk_values.specs.Values.{text_of_value}
 use Rattle.awk_values.specs.declared.fault.Fault.{Fault}
@@ -9,14 +9,11 @@ use Rattle.ere_syntax.specs.Tree.{Tree}
 use Rattle.sem_primitives.specs.Numbers.{Number}
 use Rattle.sem_primitives.specs.SharedState.{Inner, ◌>>=◌, with_special}
 use Rattle.sem_primitives.specs.Texts.{is_empty, begins_with, limited, counted, count_value}
-use Rattle.sem_primitives.specs.FirstMatch.{first_match, has_match}
+use Rattle.sem_primitives.specs.FirstMatch.{first_match}
 use Rattle.sem_primitives.specs.Eres.{expression_of}
 use Rattle.sem_primitives.specs.Fields.{Separator, Expression, separator_of, pieces_of}
 use Rattle.sem_primitives.specs.ArrayMeaning.{with_array, numbered}
 use Rattle.sem_primitives.specs.declared.constants.Special.TheVariants.{Rlength, Rstart}
-
-abbrev pub length_row : Value → Number
-length_row v = counted (length (text_of_value v))
 
 -- the bytes at the places that pass, counted from p on
 abbrev pub kept_if : Bool → ℕ → List ℕ → List ℕ
@@ -27,13 +24,6 @@ abbrev pub chosen : (ℕ → Bool) → ℕ → List ℕ → List ℕ
 chosen test p [] = []
 chosen test p (c ∷ cs) = kept_if (test p) c (chosen test (p + 1) cs)
 
--- the bytes at the places from m on, and below m + n
-abbrev pub substr_row : Value → Number → Number → Value
-substr_row v m n = Text (chosen (λ p. int_le m.number (pos p) && int_lt (pos p) (m.number +ℤ n.number)) 1 (text_of_value v))
-
-abbrev pub substr_from_row : Value → Number → Value
-substr_from_row v m = Text (chosen (λ p. int_le m.number (pos p)) 1 (text_of_value v))
-
 -- the first place, counted from p on, at which one text begins the rest of another
 abbrev pub place_from : ℕ → List ℕ → List ℕ → ℕ
 place_from p wanted [] = 0
@@ -42,24 +32,12 @@ place_from p wanted (c ∷ cs) = if begins_with wanted (c ∷ cs) then p else pl
 abbrev pub place_of : List ℕ → List ℕ → ℕ
 place_of text wanted = if is_empty wanted then 0 else place_from 1 wanted text
 
-abbrev pub index_row : Value → Value → Number
-index_row v wanted = counted (place_of (text_of_value v) (text_of_value wanted))
-
 -- ASCII letters
 abbrev pub lower : ℕ → ℕ
 lower c = if nat_le upper_a c && nat_le c upper_z then c + 32 else c
 
 abbrev pub upper : ℕ → ℕ
 upper c = if nat_le lower_a c && nat_le c lower_z then c - 32 else c
-
-abbrev pub lower_row : Value → Value
-lower_row v = Text (map lower (text_of_value v))
-
-abbrev pub upper_row : Value → Value
-upper_row v = Text (map upper (text_of_value v))
-
-abbrev pub matches_row : Value → Value → Result Bool Fault
-matches_row v ere = expression_of (text_of_value ere) >>= λ t. Ok (has_match t (text_of_value v))
 
 -- where the first match begins, counted from 1, and its length; 0 and -1 where there is none
 abbrev pub match_start : Option (ℕ × ℕ) → ℕ
@@ -74,8 +52,7 @@ abbrev pub with_match : Option (ℕ × ℕ) → Inner → Inner
 with_match m inner = with_special Rlength (Num (match_length m)) (with_special Rstart (count_value (match_start m)) inner)
 
 abbrev pub match_row : Value → Value → Inner → Result (Inner × Number) Fault
-match_row v ere inner =
-    expression_of (text_of_value ere) >>= λ t.
+match_row v ere inner = expression_of (text_of_value ere) >>= λ t.
     Ok (with_match (first_match t (text_of_value v) 0) inner, counted (match_start (first_match t (text_of_value v) 0)))
 
 -- Substitution.
@@ -129,23 +106,17 @@ replaced text by from [] = drop from text
 replaced text by from (p ∷ ps) = slice_range text from p.0 ++ (replacement (slice_range text p.0 p.1) by ++ replaced text by p.1 ps)
 
 abbrev pub substituted_by : List (ℕ × ℕ) → List ℕ → List ℕ → Inner → Result (Inner × Number) Fault
-substituted_by ps by text inner =
-    limited (replaced text by 0 ps) >>= λ new.
-    Ok (record inner { substituted = Some (Text new) }, counted (length ps))
+substituted_by ps by text inner = limited (replaced text by 0 ps) >>= λ new. Ok (record inner { substituted = Some (Text new) }, counted (length ps))
 
 -- the new text is kept, also where there is no match
 abbrev pub substitute_row : Value → Value → Value → Bool → Inner → Result (Inner × Number) Fault
-substitute_row ere by target all inner =
-    expression_of (text_of_value ere) >>= λ t.
+substitute_row ere by target all inner = expression_of (text_of_value ere) >>= λ t.
     substituted_by (places_of t (text_of_value target) all) (text_of_value by) (text_of_value target) inner
 
 -- what is kept is given once
 abbrev pub given : Option Value → Value
 given (Some v) = v
 given None = Text []
-
-abbrev pub substituted_row : Inner → Inner × Value
-substituted_row inner = (record inner { substituted = None }, given inner.substituted)
 
 -- Splitting: the array holds the pieces, by their numbers from 1 on.
 
@@ -154,6 +125,5 @@ splits_at true text = expression_of text >>= λ t. Ok (Expression t)
 splits_at false text = separator_of text
 
 abbrev pub split_row : Value → ℕ → Value → Bool → Inner → Result (Inner × Number) Fault
-split_row v a separator is_ere inner =
-    splits_at is_ere (text_of_value separator) >>= λ s.
+split_row v a separator is_ere inner = splits_at is_ere (text_of_value separator) >>= λ s.
     Ok (with_array a (numbered 1 (pieces_of s false (text_of_value v))) inner, counted (length (pieces_of s false (text_of_value v))))

@@ -1,9 +1,7 @@
 -- What primitives on values mean.
-use Rattle.std.specs.Prelude.{ℕ, Bool, nat_le, if◌then◌else◌, List, ◌++◌, length, Result, Ok, Err}
-use Rattle.awk_values.specs.Comparison.{comparison}
+use Rattle.std.specs.Prelude.{ℕ, nat_le, if◌then◌else◌, List, length, Result, Ok, Err}
 use Rattle.awk_values.specs.Operators.{power}
-use Rattle.awk_values.specs.Values.{number_of_value, text_of_value, truncated_of_value}
-use Rattle.awk_values.specs.declared.comparison.CompareOp.{CompareOp}
+use Rattle.awk_values.specs.Values.{number_of_value}
 use Rattle.awk_values.specs.declared.fault.Fault.{Fault}
 use Rattle.awk_values.specs.declared.fault.Fault.TheVariants.{TextLimit}
 use Rattle.awk_values.specs.declared.value.Value.{Value}
@@ -17,15 +15,6 @@ within_limit text = if nat_le (length text) most_text then Ok (Text text) else E
 
 abbrev pub number_of_row : Value → Result Number Fault
 number_of_row value = outcome_of (number_of_value value)
-
-abbrev pub truncated_row : Value → Result Number Fault
-truncated_row value = outcome_of (truncated_of_value value)
-
-abbrev pub comparison_row : CompareOp → Value → Value → Result Bool Fault
-comparison_row op left right = comparison left right op
-
-abbrev pub concat_row : Value → Value → Result Value Fault
-concat_row left right = within_limit (text_of_value left ++ text_of_value right)
 
 abbrev pub power_row : Number → Number → Result Number Fault
 power_row base exponent = outcome_of (power base.number exponent.number)

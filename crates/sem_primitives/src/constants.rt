@@ -1,7 +1,9 @@
 //! What constant arguments say.
 ghost use Rattle.std.specs.Prelude.{◌≡◌};
 ghost use Rattle.sem_primitives.specs.Assignments.{named, special_name};
-ghost use Rattle.sem_primitives.specs.Constants.{special_at, special_number, specials};
+ghost use Rattle.sem_primitives.specs.Constants.{specials};
+ghost use Rattle.sem_primitives.specs.ConstantPlaces.{special_at};
+ghost use Rattle.sem_primitives.specs.ConstantNumbers.{special_number};
 
 /// A special variable (POSIX.1-2017 awk, "Variables and Special Variables"); ARGV and ENVIRON are arrays.
 #[derive(Clone, Copy, Drop)]

@@ -4,7 +4,8 @@ ghost use Rattle.ere_syntax.specs.Tree.{Tree};
 ghost use Rattle.ere_syntax.specs.FirstMatch.{IsFirstMatch, IsMatch};
 ghost use Rattle.sem_primitives.specs.FirstMatch.{first_match, has_match};
 ghost use Rattle.sem_primitives.specs.Numbers.{Number, faulted_word, number_of_word, number_word};
-ghost use Rattle.sem_primitives.specs.Constants.{InConstant, constant_at, constant_number};
+ghost use Rattle.sem_primitives.specs.Constants.{InConstant, constant_at};
+ghost use Rattle.sem_primitives.specs.ConstantNumbers.{constant_number};
 ghost use Rattle.sem_primitives.specs.declared.sorts.Constant.{Constant};
 
 /// The word of a number says that number again, and is not the word that stands for a fault.

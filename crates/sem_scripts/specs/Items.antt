@@ -19,19 +19,6 @@ abbrev pub pattern_ranges : Pattern → ℕ
 pattern_ranges (One t) = 0
 pattern_ranges (Between t u) = 1
 
-abbrev pub item_ranges : Item → ℕ
-item_ranges (When p ss) = pattern_ranges p
-item_ranges (Lone p) = pattern_ranges p
-item_ranges (Always ss) = 0
-item_ranges (Begin ss) = 0
-item_ranges (End ss) = 0
-item_ranges (Function f ps ss) = 0
-item_ranges Nothing = 0
-
-abbrev pub range_count : List Item → ℕ
-range_count [] = 0
-range_count (item ∷ items) = item_ranges item + range_count items
-
 abbrev pub range_open : ℕ → State → Bool
 range_open i state = state.ranges i
 

@@ -5,5 +5,7 @@ pub mod Steps
 pub mod Meaning
 pub mod Statements
 pub mod Items
+pub mod Ranges
 pub mod ScriptRun
+pub mod RunOf
 pub mod MoreTurns

@@ -26,18 +26,13 @@ Calls = ℕ → List Local → Execution Value
 
 -- the assignment of the command line that is next
 abbrev pub assign_pending : Execution (Unit {0})
-assign_pending = do
-  i ← call row.PendingName tt
-  v ← call row.PendingValue tt
-  change (with_global i v)
+assign_pending = do i ← call row.PendingName tt; v ← call row.PendingValue tt; change (with_global i v)
 
 -- Reading the main input: assignments of the command line come first, of which each costs a turn. At most n of them are left to the script.
 
 abbrev pub unless_pending : {A : Type 0} → Execution A → (InputAnswer → Execution A) → InputAnswer → Execution A
 unless_pending assign go input.Pending = assign
-unless_pending assign go input.End = go input.End
-unless_pending assign go input.Read = go input.Read
-unless_pending assign go input.Failed = go input.Failed
+unless_pending assign go answer = go answer
 
 unfoldable pub asked : ℕ → Execution InputAnswer → Execution InputAnswer
 asked zero ask = ask >>= unless_pending (stop OutOfTurns) give
@@ -51,8 +46,7 @@ matched Differs b = not b
 abbrev pub name_passed : Scope → Name → List ℕ → Execution Local
 name_passed scope p x =
     if p.is_array then (array_number (array_of scope x) >>= λ i. give (Array i)) else
-    if is_array scope x then give (Scalar value.Uninit) else
-    (read_variable (variable_of scope x) >>= λ v. give (Scalar v))
+    if is_array scope x then give (Scalar value.Uninit) else (read_variable (variable_of scope x) >>= λ v. give (Scalar v))
 
 module _ (scope : Scope) (n : ℕ) (calls : Calls) where
   unfoldable mutual
@@ -63,19 +57,10 @@ module _ (scope : Scope) (n : ℕ) (calls : Calls) where
       x ← call row.Field (zero_number, tt)
       b ← call row.Matches (x, (value.Text (ere_text text), tt))
       give (truth_value b)
-    value_of Length = do
-      x ← call row.Field (zero_number, tt)
-      m ← call row.Length (x, tt)
-      give (numeric m)
+    value_of Length = do x ← call row.Field (zero_number, tt); m ← call row.Length (x, tt); give (numeric m)
     value_of (Var x) = read_variable (variable_of scope x)
-    value_of (Index x ts) = do
-      i ← array_number (array_of scope x)
-      key ← key_of ts
-      call row.Elem (i, (key, tt))
-    value_of (Field t) = do
-      x ← value_of t
-      m ← number_in x
-      call row.Field (m, tt)
+    value_of (Index x ts) = do i ← array_number (array_of scope x); key ← key_of ts; call row.Elem (i, (key, tt))
+    value_of (Field t) = do x ← value_of t; m ← number_in x; call row.Field (m, tt)
     value_of (Group t) = value_of t
     value_of (Call f ts) = do
       locals ← passed (function_at scope.script.functions (function_number scope.script f)).parameters ts
@@ -83,18 +68,9 @@ module _ (scope : Scope) (n : ℕ) (calls : Calls) where
       calls (function_number scope.script f) locals
     value_of (Apply builtin.Sprintf ts) = values_of ts >>= λ vs. call_listed listed.Sprintf vs
     value_of (Apply f ts) = applied f ts
-    value_of (Unary Not t) = do
-      x ← value_of t
-      give (truth_value (not (truth_of_value x)))
-    value_of (Unary (Signed Plus) t) = do
-      x ← value_of t
-      m ← number_in x
-      give (numeric m)
-    value_of (Unary (Signed Minus) t) = do
-      x ← value_of t
-      m ← number_in x
-      result ← arithmetic difference zero_number m
-      give (numeric result)
+    value_of (Unary Not t) = do x ← value_of t; give (truth_value (not (truth_of_value x)))
+    value_of (Unary (Signed Plus) t) = do x ← value_of t; m ← number_in x; give (numeric m)
+    value_of (Unary (Signed Minus) t) = do x ← value_of t; m ← number_in x; result ← arithmetic difference zero_number m; give (numeric result)
     value_of (Pre s t) = do
       place ← place_of t
       old ← read_place place
@@ -108,27 +84,11 @@ module _ (scope : Scope) (n : ℕ) (calls : Calls) where
       result ← step_operator s m one_number
       u ← store_place place (numeric result)
       give (numeric m)
-    value_of (Bin Join a b) = do
-      x ← value_of a
-      y ← value_of b
-      call row.Concat (x, (y, tt))
-    value_of (Bin (Add s) a b) = do
-      x ← value_of a
-      y ← value_of b
-      computed (sign_operator s) x y
-    value_of (Bin (Other (Mul p)) a b) = do
-      x ← value_of a
-      y ← value_of b
-      computed (product_operator p) x y
-    value_of (Bin (Other Pow) a b) = do
-      x ← value_of a
-      y ← value_of b
-      computed power_operator x y
-    value_of (Bin (Other (Compare c)) a b) = do
-      x ← value_of a
-      y ← value_of b
-      truth ← compared (comparison_of c) x y
-      give (truth_value truth)
+    value_of (Bin Join a b) = do x ← value_of a; y ← value_of b; call row.Concat (x, (y, tt))
+    value_of (Bin (Add s) a b) = do x ← value_of a; y ← value_of b; computed (sign_operator s) x y
+    value_of (Bin (Other (Mul p)) a b) = do x ← value_of a; y ← value_of b; computed (product_operator p) x y
+    value_of (Bin (Other Pow) a b) = do x ← value_of a; y ← value_of b; computed power_operator x y
+    value_of (Bin (Other (Compare c)) a b) = do x ← value_of a; y ← value_of b; truth ← compared (comparison_of c) x y; give (truth_value truth)
     value_of (Bin (Other (Match m)) a b) = do
       x ← value_of a
       ere ← ere_or (ere_in b) (value_of b)
@@ -140,18 +100,11 @@ module _ (scope : Scope) (n : ℕ) (calls : Calls) where
     value_of (Bin (Other Or) a b) = do
       x ← value_of a
       if truth_of_value x then give (truth_value true) else (value_of b >>= λ y. give (truth_value (truth_of_value y)))
-    value_of (Bin (Other (Assign Set)) a b) = do
-      place ← place_of a
-      x ← value_of b
-      stored place x
+    value_of (Bin (Other (Assign Set)) a b) = do place ← place_of a; x ← value_of b; stored place x
     value_of (Bin (Other (Assign (SetSum s))) a b) = updated (sign_operator s) (place_of a) (value_of b)
     value_of (Bin (Other (Assign (SetProduct p))) a b) = updated (product_operator p) (place_of a) (value_of b)
     value_of (Bin (Other (Assign SetPower)) a b) = updated power_operator (place_of a) (value_of b)
-    value_of (Has t x) = do
-      i ← array_number (array_of scope x)
-      key ← value_of t
-      b ← call row.Has (i, (key, tt))
-      give (truth_value b)
+    value_of (Has t x) = do i ← array_number (array_of scope x); key ← value_of t; b ← call row.Has (i, (key, tt)); give (truth_value b)
     value_of (HasList t ts x) = do
       i ← array_number (array_of scope x)
       first ← value_of t
@@ -159,106 +112,47 @@ module _ (scope : Scope) (n : ℕ) (calls : Calls) where
       key ← call row.Join (first, (rest, tt))
       b ← call row.Has (i, (key, tt))
       give (truth_value b)
-    value_of (Cond c a b) = do
-      x ← value_of c
-      if truth_of_value x then value_of a else value_of b
+    value_of (Cond c a b) = do x ← value_of c; if truth_of_value x then value_of a else value_of b
     value_of Get = asked n (asks row.Getline tt) >>= λ answer. give (numeric (input_number answer))
-    value_of (GetInto v) = do
-      place ← place_of v
-      answer ← asked n (asks row.GetlineVar tt)
-      received place answer
-    value_of (GetFrom s) = do
-      file ← value_of s
-      answer ← call row.GetlineFile (file, tt)
-      give (numeric (input_number answer))
-    value_of (GetIntoFrom v s) = do
-      place ← place_of v
-      file ← value_of s
-      answer ← call row.GetlineVarFile (file, tt)
-      received place answer
+    value_of (GetInto v) = do place ← place_of v; answer ← asked n (asks row.GetlineVar tt); received place answer
+    value_of (GetFrom s) = do file ← value_of s; answer ← call row.GetlineFile (file, tt); give (numeric (input_number answer))
+    value_of (GetIntoFrom v s) = do place ← place_of v; file ← value_of s; answer ← call row.GetlineVarFile (file, tt); received place answer
 
     pub values_of : Trees → Execution (List Value)
     values_of NoTree = give []
-    values_of (Then t ts) = do
-      v ← value_of t
-      vs ← values_of ts
-      give (v ∷ vs)
+    values_of (Then t ts) = do v ← value_of t; vs ← values_of ts; give (v ∷ vs)
 
     -- subscripts: all are evaluated, then joined with SUBSEP
     pub key_of : Trees → Execution Value
     key_of NoTree = give value.Uninit
     key_of (Then t NoTree) = value_of t
-    key_of (Then t (Then u ts)) = do
-      first ← value_of t
-      rest ← key_of (Then u ts)
-      call row.Join (first, (rest, tt))
+    key_of (Then t (Then u ts)) = do first ← value_of t; rest ← key_of (Then u ts); call row.Join (first, (rest, tt))
 
     pub place_of : Tree → Execution Place
     place_of (Index x ts) = key_of ts >>= λ key. give (Element (array_of scope x) key)
-    place_of (Field t) = do
-      x ← value_of t
-      m ← number_in x
-      checked ← settled (field_checked m)
-      give (FieldAt checked)
+    place_of (Field t) = do x ← value_of t; m ← number_in x; checked ← settled (field_checked m); give (FieldAt checked)
     place_of (Var x) = give (Named (variable_of scope x))
     -- what is no place stands where one is wanted in no well-formed tree
-    place_of (Leaf l) = give (FieldAt zero_number)
-    place_of Length = give (FieldAt zero_number)
-    place_of (Group t) = give (FieldAt zero_number)
-    place_of (Call f ts) = give (FieldAt zero_number)
-    place_of (Apply f ts) = give (FieldAt zero_number)
-    place_of (Unary s t) = give (FieldAt zero_number)
-    place_of (Pre s t) = give (FieldAt zero_number)
-    place_of (Post s t) = give (FieldAt zero_number)
-    place_of (Bin op a b) = give (FieldAt zero_number)
-    place_of (Has t x) = give (FieldAt zero_number)
-    place_of (HasList t ts x) = give (FieldAt zero_number)
-    place_of (Cond c a b) = give (FieldAt zero_number)
-    place_of Get = give (FieldAt zero_number)
-    place_of (GetInto v) = give (FieldAt zero_number)
-    place_of (GetFrom s) = give (FieldAt zero_number)
-    place_of (GetIntoFrom v s) = give (FieldAt zero_number)
+    place_of _ = give (FieldAt zero_number)
 
     -- arguments for parameters: an array by its number, a value, and for what is missing something fresh
     pub passed : List Name → Trees → Execution (List Local)
     passed ps NoTree = fresh_all ps
     passed [] (Then t ts) = give []
-    passed (p ∷ ps) (Then (Var x) ts) = do
-      l ← name_passed scope p x
-      ls ← passed ps ts
-      give (l ∷ ls)
-    passed (p ∷ ps) (Then t ts) = do
-      x ← value_of t
-      ls ← passed ps ts
-      give (given_value p x ∷ ls)
+    passed (p ∷ ps) (Then (Var x) ts) = do l ← name_passed scope p x; ls ← passed ps ts; give (l ∷ ls)
+    passed (p ∷ ps) (Then t ts) = do x ← value_of t; ls ← passed ps ts; give (given_value p x ∷ ls)
 
     -- `int` of a quotient, parentheses aside, is the truncated quotient; plain is what the operand means elsewhere
     pub truncated_of : Tree → Execution Value → Execution Value
     truncated_of (Group t) plain = truncated_of t plain
-    truncated_of (Bin (Other (Mul Over)) a b) plain = do
-      x ← value_of a
-      y ← value_of b
-      computed (arithmetic truncated_quotient) x y
-    truncated_of t plain = do
-      x ← plain
-      m ← call row.IntOf (x, tt)
-      give (numeric m)
+    truncated_of (Bin (Other (Mul Over)) a b) plain = do x ← value_of a; y ← value_of b; computed (arithmetic truncated_quotient) x y
+    truncated_of t plain = do x ← plain; m ← call row.IntOf (x, tt); give (numeric m)
 
     -- built-in functions
     pub applied : Builtin → Trees → Execution Value
-    applied builtin.Length (Then t NoTree) = do
-      x ← value_of t
-      m ← call row.Length (x, tt)
-      give (numeric m)
-    applied builtin.Length ts = do
-      x ← call row.Field (zero_number, tt)
-      m ← call row.Length (x, tt)
-      give (numeric m)
-    applied builtin.Substr (Then s (Then from NoTree)) = do
-      x ← value_of s
-      y ← value_of from
-      m ← number_in y
-      call row.SubstrFrom (x, (m, tt))
+    applied builtin.Length (Then t NoTree) = do x ← value_of t; m ← call row.Length (x, tt); give (numeric m)
+    applied builtin.Length ts = do x ← call row.Field (zero_number, tt); m ← call row.Length (x, tt); give (numeric m)
+    applied builtin.Substr (Then s (Then from NoTree)) = do x ← value_of s; y ← value_of from; m ← number_in y; call row.SubstrFrom (x, (m, tt))
     applied builtin.Substr (Then s (Then from (Then count ts))) = do
       x ← value_of s
       y ← value_of from
@@ -266,11 +160,7 @@ module _ (scope : Scope) (n : ℕ) (calls : Calls) where
       m ← number_in y
       l ← number_in z
       call row.Substr (x, (m, (l, tt)))
-    applied builtin.Index (Then s (Then t ts)) = do
-      x ← value_of s
-      y ← value_of t
-      m ← call row.Index (x, (y, tt))
-      give (numeric m)
+    applied builtin.Index (Then s (Then t ts)) = do x ← value_of s; y ← value_of t; m ← call row.Index (x, (y, tt)); give (numeric m)
     applied builtin.Split (Then s (Then (Var a) NoTree)) = do
       x ← value_of s
       i ← array_number (array_of scope a)
@@ -295,24 +185,8 @@ module _ (scope : Scope) (n : ℕ) (calls : Calls) where
     applied builtin.ToLower (Then t ts) = value_of t >>= λ x. call row.Lower (x, tt)
     applied builtin.ToUpper (Then t ts) = value_of t >>= λ x. call row.Upper (x, tt)
     applied builtin.Int (Then t ts) = truncated_of t (value_of t)
-    applied builtin.Close (Then t ts) = do
-      x ← value_of t
-      answer ← call row.Close (x, tt)
-      give (numeric (stream_number answer))
+    applied builtin.Close (Then t ts) = do x ← value_of t; answer ← call row.Close (x, tt); give (numeric (stream_number answer))
     applied builtin.Fflush NoTree = give (numeric zero_number)
-    applied builtin.Fflush (Then t ts) = do
-      x ← value_of t
-      answer ← call row.Flush (x, tt)
-      give (numeric (stream_number answer))
+    applied builtin.Fflush (Then t ts) = do x ← value_of t; answer ← call row.Flush (x, tt); give (numeric (stream_number answer))
     -- other arguments stand in no well-formed tree, and `sprintf` is met above
-    applied builtin.Substr ts = give value.Uninit
-    applied builtin.Index ts = give value.Uninit
-    applied builtin.Split ts = give value.Uninit
-    applied builtin.Sub ts = give value.Uninit
-    applied builtin.Gsub ts = give value.Uninit
-    applied builtin.Match ts = give value.Uninit
-    applied builtin.Sprintf ts = give value.Uninit
-    applied builtin.ToLower ts = give value.Uninit
-    applied builtin.ToUpper ts = give value.Uninit
-    applied builtin.Int ts = give value.Uninit
-    applied builtin.Close ts = give value.Uninit
+    applied f ts = give value.Uninit

@@ -81,14 +81,12 @@ is_special_array None = false
 
 -- what a name stands for that is used as a scalar
 pub data Variable : Type 0 where
-  Global : ℕ → Variable
-  Parameter : ℕ → Variable
+  Global Parameter : ℕ → Variable
   Reserved : Special → Variable
 
 -- one that is used as an array: an array by its number, or by a parameter
 pub data ArrayName : Type 0 where
-  Numbered : ℕ → ArrayName
-  Given : ℕ → ArrayName
+  Numbered Given : ℕ → ArrayName
 
 abbrev pub global_or_special : List Name → List ℕ → Option Special → Variable
 global_or_special globals x (Some special) = Reserved special

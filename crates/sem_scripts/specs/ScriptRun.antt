@@ -13,9 +13,7 @@ use Rattle.sem_primitives.specs.declared.answers.AssignAnswer.TheVariants as ass
 use Rattle.sem_primitives.specs.declared.constants.NameKind.{NameKind}
 use Rattle.sem_primitives.specs.declared.constants.NameKind.TheVariants as kind
 use Rattle.sem_primitives.specs.declared.table.Primitive.TheVariants as row
-use Rattle.awk_grammar.specs.Trees.{Item}
 use Rattle.sem_scripts.specs.Names.{Name, Function, Resolved, names_length}
-use Rattle.sem_scripts.specs.Kinds.{resolved}
 use Rattle.sem_scripts.specs.ScriptState.{State, Faulted, OutOfTurns, TooDeep, Nexted, Exited, Returned, Outcome, Gives, Stops, Execution, ◌>>=◌, ◌>>◌, nothing, stop, call, asks, spend}
 use Rattle.sem_scripts.specs.Steps.{zero_number}
 use Rattle.sem_scripts.specs.Meaning.{assign_pending}
@@ -53,12 +51,8 @@ first_assigned (suc n) = asks row.StartAssign tt >>= on_assignment (assign_pendi
 -- `next` ends what is done for a record, and no more
 abbrev pub next_over : Outcome (Unit {0}) → Outcome (Unit {0})
 next_over (Stops Nexted state) = Gives tt state
-next_over (Stops (Faulted fault) state) = Stops (Faulted fault) state
-next_over (Stops OutOfTurns state) = Stops OutOfTurns state
-next_over (Stops TooDeep state) = Stops TooDeep state
-next_over (Stops Exited state) = Stops Exited state
-next_over (Stops (Returned x) state) = Stops (Returned x) state
 next_over (Gives u state) = Gives tt state
+next_over other = other
 
 abbrev pub for_record : Execution (Unit {0}) → Execution (Unit {0})
 for_record items = λ state. next_over (items state)
@@ -67,8 +61,7 @@ for_record items = λ state. next_over (items state)
 abbrev pub on_input : (read : Execution (Unit {0})) → (pending : Execution (Unit {0})) → InputAnswer → Execution (Unit {0})
 on_input read pending input.Read = spend >> read
 on_input read pending input.Pending = spend >> pending
-on_input read pending input.End = nothing
-on_input read pending input.Failed = nothing
+on_input read pending _ = nothing
 
 unfoldable pub records_done : ℕ → Execution (Unit {0}) → Execution (Unit {0})
 records_done zero items = asks row.NextMain tt >>= on_input (stop OutOfTurns) (stop OutOfTurns)
@@ -78,11 +71,9 @@ records_done (suc n) items = asks row.NextMain tt >>= on_input (for_record items
 abbrev pub part_over : Outcome (Unit {0}) → Outcome (Unit {0})
 part_over (Stops Exited state) = Gives tt state
 part_over (Stops Nexted state) = Stops (Faulted NextOutside) state
-part_over (Stops (Faulted fault) state) = Stops (Faulted fault) state
-part_over (Stops OutOfTurns state) = Stops OutOfTurns state
-part_over (Stops TooDeep state) = Stops TooDeep state
 part_over (Stops (Returned x) state) = Gives tt state
 part_over (Gives u state) = Gives tt state
+part_over other = other
 
 abbrev pub part : Execution (Unit {0}) → Execution (Unit {0})
 part actions = λ state. part_over (actions state)
@@ -121,8 +112,7 @@ parts_of n script = record {
 pub data Ending : Type 0 where
   Ended : (status : ℕ) → List Action → Ending
   FaultedBy : Fault → List Action → Ending
-  GoesOn : List Action → Ending
-  Exhausted : List Action → Ending
+  GoesOn Exhausted : List Action → Ending
 
 -- the status is taken modulo 256
 abbrev pub ending : Outcome (Unit {0}) → Ending
@@ -167,12 +157,8 @@ abbrev pub most_calls : ℕ
 most_calls = 9999
 
 abbrev pub setting_in : JobForm → Source → Environment → Setting
-setting_in job input environment =
-    record { job = job; input = input; outside = environment; deepest = most_calls }
+setting_in job input environment = record { job = job; input = input; outside = environment; deepest = most_calls }
 
 -- where nobody else changes what names hold
 abbrev pub setting_of : JobForm → Source → Outside → Setting
 setting_of job input outside = setting_in job input (Closed outside)
-
-abbrev pub run_of : List Item → JobForm → Source → Outside → ℕ → Ending
-run_of script job input outside turns = resolved_run (resolved script) (setting_of job input outside) turns

@@ -41,8 +41,7 @@ pub data Stop : Type 0 where
   -- a call of a function while no more may be nested
   TooDeep : Stop
   -- `next`, `exit` and `return` leave what is being done, also in the middle of an expression
-  Nexted : Stop
-  Exited : Stop
+  Nexted Exited : Stop
   Returned : Value → Stop
 
 pub data Outcome (A : Type 0) : Type 0 where

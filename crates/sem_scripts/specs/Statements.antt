@@ -12,27 +12,23 @@ use Rattle.sem_primitives.specs.declared.table.Listed.TheVariants as listed
 use Rattle.awk_grammar.specs.Token.{Number}
 use Rattle.awk_grammar.specs.Trees.{Tree, Leaf, Field, Trees, NoTree, Then, Printing, Print, Printf, Args, NoArgs, Listed as Operands, Enclosed, Target, NoTarget, Written, Appended, Plain, Eval, Put, Delete, Clear, Break, Continue, Next, NextFile, Exit, Return, Stmt, Block, Empty, Simple, If, IfElse, While, Do, For, ForIn, Jumping, Leave, Stmts, NoStmt, And}
 use Rattle.sem_scripts.specs.Names.{Function, Resolved, Scope, function_at, variable_of, array_of}
-use Rattle.sem_scripts.specs.ScriptState.{Local, State, CallFrame, Faulted, OutOfTurns, TooDeep, Nexted, Exited, Returned, Outcome, Gives, Stops, Execution, ◌>>=◌, ◌>>◌, give, nothing, stop, change, call, call_listed, spend}
+use Rattle.sem_scripts.specs.ScriptState.{Local, State, CallFrame, OutOfTurns, TooDeep, Nexted, Exited, Returned, Outcome, Gives, Stops, Execution, ◌>>=◌, ◌>>◌, give, nothing, stop, change, call, call_listed, spend}
 use Rattle.sem_scripts.specs.Steps.{number_in, array_number, store_variable}
 use Rattle.sem_scripts.specs.Meaning.{Calls, value_of, values_of, key_of}
 
 -- how a statement ends that does not leave what is being done
 pub data Flow : Type 0 where
-  Normal : Flow
-  Broke : Flow
-  Continued : Flow
+  Normal Broke Continued : Flow
 
 -- the statement, and what follows it
 abbrev pub after : Flow → Execution Flow → Execution Flow
 after Normal rest = rest
-after Broke rest = give Broke
-after Continued rest = give Continued
+after flow rest = give flow
 
 -- a round of a loop, and what follows it
 abbrev pub after_round : Flow → Execution Flow → Execution Flow
-after_round Normal rest = rest
 after_round Broke rest = give Normal
-after_round Continued rest = rest
+after_round _ rest = rest
 
 -- at most n rounds, each with its test, which costs a turn, its body and its step
 unfoldable pub loop : ℕ → Execution Bool → Execution Flow → Execution (Unit {0}) → Execution Flow
@@ -100,13 +96,8 @@ module _ (scope : Scope) (n : ℕ) (calls : Calls) where
   unfoldable pub plain_done : Plain → Execution (Unit {0})
   plain_done (Eval t) = value_of scope n calls t >> nothing
   plain_done (Put p args target) = values_of scope n calls (with_target (operands_of args) target) >>= put (listed_of p (destination_of target))
-  plain_done (Delete a ts) = do
-    i ← array_number (array_of scope a)
-    key ← key_of scope n calls ts
-    call row.Delete (i, (key, tt))
-  plain_done (Clear a) = do
-    i ← array_number (array_of scope a)
-    call row.Clear (i, tt)
+  plain_done (Delete a ts) = do i ← array_number (array_of scope a); key ← key_of scope n calls ts; call row.Delete (i, (key, tt))
+  plain_done (Clear a) = do i ← array_number (array_of scope a); call row.Clear (i, tt)
 
   abbrev pub maybe_done : Option Plain → Execution (Unit {0})
   maybe_done None = nothing
@@ -132,11 +123,7 @@ module _ (scope : Scope) (n : ℕ) (calls : Calls) where
     -- the rest of what is being read is given up, and then the record is left
     done_by (Jumping NextFile) = call row.NextFile tt >> stop Nexted
     done_by (Leave Exit None) = stop Exited
-    done_by (Leave Exit (Some t)) = do
-      x ← value_of scope n calls t
-      m ← number_in x
-      u ← change (with_status m)
-      stop Exited
+    done_by (Leave Exit (Some t)) = do x ← value_of scope n calls t; m ← number_in x; u ← change (with_status m); stop Exited
     done_by (Leave Return None) = stop (Returned value.Uninit)
     done_by (Leave Return (Some t)) = value_of scope n calls t >>= λ x. stop (Returned x)
 
@@ -150,11 +137,7 @@ module _ (scope : Scope) (n : ℕ) (calls : Calls) where
 abbrev pub returned : CallFrame → Outcome Flow → Outcome Value
 returned own (Gives flow state) = Gives value.Uninit (record state { own = own })
 returned own (Stops (Returned x) state) = Gives x (record state { own = own })
-returned own (Stops (Faulted fault) state) = Stops (Faulted fault) (record state { own = own })
-returned own (Stops OutOfTurns state) = Stops OutOfTurns (record state { own = own })
-returned own (Stops TooDeep state) = Stops TooDeep (record state { own = own })
-returned own (Stops Nexted state) = Stops Nexted (record state { own = own })
-returned own (Stops Exited state) = Stops Exited (record state { own = own })
+returned own (Stops why state) = Stops why (record state { own = own })
 
 -- a call where so many more may be nested
 abbrev pub entered_with : ℕ → List Local → Execution Flow → Execution Value

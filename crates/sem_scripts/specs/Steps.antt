@@ -84,11 +84,7 @@ step_operator Decrement = arithmetic difference
 
 -- both are converted, the left one first
 abbrev pub computed : Operator → Value → Value → Execution Value
-computed operator x y = do
-  m ← number_in x
-  n ← number_in y
-  result ← operator m n
-  give (numeric result)
+computed operator x y = do m ← number_in x; n ← number_in y; result ← operator m n; give (numeric result)
 
 abbrev pub comparison_of : Comparison → CompareOp
 comparison_of Less = compare.Less
@@ -171,10 +167,9 @@ is_ere (text ∷ rest) = true
 -- Answers as numbers.
 
 abbrev pub input_number : InputAnswer → Number
-input_number input.End = zero_number
 input_number input.Read = one_number
-input_number input.Pending = zero_number
 input_number input.Failed = minus_one
+input_number _ = zero_number
 
 abbrev pub stream_number : StreamAnswer → Number
 stream_number stream.Done = zero_number
@@ -182,10 +177,7 @@ stream_number stream.NotOpen = minus_one
 
 -- the text that was read goes into a variable
 abbrev pub received : Place → InputAnswer → Execution Value
-received place input.Read = do
-  text ← call Line tt
-  u ← store_place place text
-  give (numeric one_number)
+received place input.Read = do text ← call Line tt; u ← store_place place text; give (numeric one_number)
 received place answer = give (numeric (input_number answer))
 
 -- with what was replaced, if anything was
@@ -202,19 +194,11 @@ given_value p x = if p.is_array then Array 0 else Scalar x
 
 abbrev pub fresh_all : List Name → Execution (List Local)
 fresh_all [] = give []
-fresh_all (p ∷ ps) = do
-  l ← fresh p
-  ls ← fresh_all ps
-  give (l ∷ ls)
+fresh_all (p ∷ ps) = do l ← fresh p; ls ← fresh_all ps; give (l ∷ ls)
 
 -- An assignment with an operator: the place, the right side, and then the old value.
 abbrev pub updated : Operator → Execution Place → Execution Value → Execution Value
-updated operator where_to right = do
-  place ← where_to
-  x ← right
-  old ← read_place place
-  result ← computed operator old x
-  stored place result
+updated operator where_to right = do place ← where_to; x ← right; old ← read_place place; result ← computed operator old x; stored place result
 
 -- expression, replacement, place; then the old value
 abbrev pub substituted : Bool → Execution Value → Execution Value → Execution Place → Execution Value

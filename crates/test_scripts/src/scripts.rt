@@ -1,6 +1,6 @@
 //! Scripts, compiled and run.
 ghost use Rattle.std.specs.Prelude.{◌≡◌, ℕ, List, IfOk, IfErr};
-ghost use Rattle.awk_run.specs.ModuleRun.{Answers, IsGiven};
+ghost use Rattle.run_modules.specs.ModuleRun.{Answers, IsGiven};
 ghost use Rattle.awk_run.specs.ScriptRuns.{ScriptAnswers};
 ghost use Rattle.host_tables.specs.Starts.{empty_job, job_of};
 ghost use Rattle.script_compiler.specs.Compiled.{IsCompiled};

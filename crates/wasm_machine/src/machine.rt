@@ -4,7 +4,8 @@ ghost use Rattle.wasm_machine.specs.Places.{HasStatement, StandsAt, frame_at};
 ghost use Rattle.wasm_machine.specs.StateStretches.{CalledLast};
 ghost use Rattle.wasm_model.specs.Links.{IsNew, Refuses};
 ghost use Rattle.wasm_model.specs.Reductions.{Reduced};
-ghost use Rattle.wasm_model.specs.Runs.{Did, lasting, told_run};
+ghost use Rattle.wasm_model.specs.Runs.{told_run};
+ghost use Rattle.wasm_model.specs.MachineRuns.{Did, lasting};
 ghost use Rattle.wasm_model.specs.Typed.{Linked, SafeRun};
 ghost use Rattle.wasm_types.specs.View.{view_module};
 

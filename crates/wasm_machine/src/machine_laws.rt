@@ -1,6 +1,6 @@
 //! Laws of machines, and of what they mean.
 ghost use Rattle.std.specs.Prelude.{◌≡◌, ◌+◌, None};
-ghost use Rattle.wasm_model.specs.Runs.{Did, IsPrefix};
+ghost use Rattle.wasm_model.specs.MachineRuns.{Did, IsPrefix};
 ghost use Rattle.wasm_model.specs.Typed.{Linked};
 
 use crate::machine::Machine;

@@ -20,7 +20,8 @@ use Rattle.wasm_model.specs.declared.fault.LinkFault.{LinkFault}
 use Rattle.wasm_model.specs.declared.fault.LinkFault.TheVariants as fault
 use Rattle.wasm_model.specs.Frames.{FrameForm, begun}
 use Rattle.wasm_model.specs.Hosts.{Finds}
-use Rattle.wasm_model.specs.Links.{NumberRefused, first_some, first_none, main_type, main_function, main_at, main_of, is_main_name, number_if, number_for, numbers_for, value_of, least, limits_or_none, Refuses, filled, poured, entry_code, beginning}
+use Rattle.wasm_model.specs.Links.{first_some, first_none, main_type, main_function, main_at, main_of, is_main_name, number_if, number_for, numbers_for, value_of, least, limits_or_none, Refuses, filled, poured, entry_code, beginning}
+use Rattle.wasm_model.specs.LinkAnswers.{NumberRefused}
 use Rattle.wasm_model.specs.Machines.{CallerForm, ProgramForm, agree}
 use Rattle.wasm_model.specs.Typed.{bottom, ConfOk, IsCalls, Linked}
 use Rattle.wasm_model.proofs.Types.{agreed}

@@ -30,13 +30,15 @@ use Rattle.wasm_model.specs.Stacks.{taken}
 use Rattle.wasm_model.specs.Frames.{LabelForm, FrameForm, Local, local_step, with_values}
 use Rattle.wasm_model.specs.Frames as form
 use Rattle.wasm_model.specs.Machines.{Conf, CallerForm, ProgramForm, Turn, Goes, Ends, Asks, turn, turn_by, with_frame, with_operands, with_value, with_loaded, with_stored, with_grown, global_set, memory_load, memory_store, memory_grow, worked, asked, asked_if, entered_func, entered_if, call_at, called, called_by, agree, returned_with, answered}
-use Rattle.wasm_model.specs.Runs.{TakenAs, OverBy, Steps, Ran, Did}
+use Rattle.wasm_model.specs.Runs.{TakenAs, OverBy, Steps, Ran}
+use Rattle.wasm_model.specs.MachineRuns.{Did}
 use Rattle.wasm_model.specs.declared.host.HostAnswer.{HostAnswer}
 use Rattle.wasm_model.specs.declared.ends.MachineEnd.{MachineEnd}
 use Rattle.wasm_model.specs.declared.ends.RunEnd.{RunEnd}
 use Rattle.wasm_model.specs.declared.ends.RunEnd.TheVariants.{Ended, OutOfSteps, NoMemory}
 use Rattle.wasm_model.specs.Typed.{AccessOk, IsSafe, IsSafeTurn, SafeEnd, CallersOk, FirstOk, FrameOk, ConfOk, ProgramOk, Linked}
-use Rattle.wasm_model.specs.Reductions.{Admin, Const, Does, Invoke, LabelOf, FrameOf, Trapped, Sequence, ε, ◌⨾◌, ◌⧺◌, op, arity, sequence, on, results, StoreForm, after_host, Chain, none, in_labels, in_place, in_body, in_frames, nested, store_of, CallsDeep, EndsIn, IsReduced, IsStepReduced, IsRunReduced, Reduced}
+use Rattle.wasm_model.specs.Reductions.{Admin, Const, Does, Invoke, LabelOf, FrameOf, Trapped, Sequence, ε, ◌⨾◌, ◌⧺◌, op, arity, sequence, on, results, StoreForm, after_host, Chain, none, in_labels, in_place, in_body, in_frames, nested, store_of, CallsDeep, EndsIn, IsReduced, IsRunReduced, Reduced}
+use Rattle.wasm_model.specs.StepReductions.{IsStepReduced}
 use Rattle.wasm_model.specs.Reductions as core
 use Rattle.wasm_model.proofs.Safe.{never_stuck}
 use Rattle.wasm_model.proofs.First.{Leaving, Calling, first_step, left_with}

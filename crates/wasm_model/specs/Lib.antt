@@ -1,9 +1,13 @@
 pub mod Frames
 pub mod Hosts
+pub mod HostAnswers
 pub mod Links
+pub mod LinkAnswers
 pub mod Machines
 pub mod Reductions
+pub mod StepReductions
 pub mod Examples
 pub mod Runs
+pub mod MachineRuns
 pub mod Stacks
 pub mod Typed

@@ -1,8 +1,6 @@
 -- A module's run begins: its imports are linked, its segments written, and the start function and `main` are called (Core 1.0, sections 4.5.4 and 4.5.5).
-use Rattle.std.specs.Prelude.{ℕ, ◌≡◌, ◌≢◌, ◌+◌, ◌*◌, ◌≤◌, List, [], ◌∷◌, length, map, replicate, Option, Some, None, Result, Ok, Err, Bool, false, ◌&&◌, nat_eq, if◌then◌else◌}
+use Rattle.std.specs.Prelude.{ℕ, ◌≡◌, ◌≢◌, ◌+◌, ◌*◌, ◌≤◌, List, [], ◌∷◌, length, map, replicate, Option, Some, None, Bool, false, ◌&&◌, nat_eq, if◌then◌else◌}
 use Rattle.std.specs.List.{All}
-use Rattle.std.specs.declared.vec.Vec.{Vec}
-use Rattle.std.specs.declared.alloc.Global.{Global}
 use Rattle.wasm_types.specs.declared.types.ValType.TheVariants as ty
 use Rattle.wasm_types.specs.declared.types.Limits.{Limits}
 use Rattle.wasm_types.specs.declared.instr.Simple.TheVariants.{Call}
@@ -63,17 +61,6 @@ number_for F m x = number_if m x.ty (F x.from x.name)
 
 abbrev pub numbers_for : Finds → ModuleForm → List (Option ℕ)
 numbers_for F m = map (number_for F m) m.imports
-
--- either there are all numbers, or the first missing one is told
-abbrev pub NumberRefused : List (Option ℕ) → LinkFault → Type 0
-NumberRefused wanted NoMain = ⊥
-NumberRefused wanted (BadImport i) = first_none wanted ≡ Some i
-NumberRefused wanted SegmentBounds = ⊥
-NumberRefused wanted NoMemory = Unit {0}
-
-abbrev pub Numbers : Result (Vec ℕ Global) LinkFault → List (Option ℕ) → Type 0
-Numbers (Ok v) wanted = wanted ≡ map Some v.items
-Numbers (Err e) wanted = NumberRefused wanted e
 
 -- Segments lie within the table and the memory as they are at first.
 

@@ -31,11 +31,11 @@ use Rattle.wasm_model.specs.declared.ends.End.{End}
 use Rattle.wasm_model.specs.declared.ends.End.TheVariants as ends
 use Rattle.wasm_model.specs.Hosts.{Meaning}
 use Rattle.wasm_model.specs.Frames.{LabelForm, FrameForm}
-use Rattle.wasm_model.specs.Machines.{Conf, CallerForm, ProgramForm, Turn, agree, most_frames}
+use Rattle.wasm_model.specs.Machines.{Conf, CallerForm, ProgramForm, agree, most_frames}
 use Rattle.wasm_model.specs.declared.ends.MachineEnd.{MachineEnd}
 use Rattle.wasm_model.specs.declared.ends.RunEnd.{RunEnd}
 use Rattle.wasm_model.specs.declared.ends.RunEnd.TheVariants.{Ended, OutOfSteps, NoMemory}
-use Rattle.wasm_model.specs.Runs.{TakenAs, OverBy, IsWithin, Ran, told_run}
+use Rattle.wasm_model.specs.Runs.{IsWithin, Ran, told_run}
 
 infixr 5 ◌⨾◌
 infixr 5 ◌⧺◌
@@ -161,8 +161,7 @@ pub data Rewrites : ℕ → Sequence → Sequence → Type 0 where
   -- frame_n{F} val^n end ↪ val^n
   frame_ends : {n : ℕ} {F : List Word} (vs : List Word) → length vs ≡ n → Rewrites 0 (FrameOf n F (on vs ε) ⨾ ε) (on vs ε)
   -- E[trap] ↪ trap where E ≠ [_]
-  trap_climbs : {k : TrapKind} (E : Evaluation) →
-      filled E (Trapped k ⨾ ε) ≢ Trapped k ⨾ ε → Rewrites 0 (filled E (Trapped k ⨾ ε)) (Trapped k ⨾ ε)
+  trap_climbs : {k : TrapKind} (E : Evaluation) → filled E (Trapped k ⨾ ε) ≢ Trapped k ⨾ ε → Rewrites 0 (filled E (Trapped k ⨾ ε)) (Trapped k ⨾ ε)
   -- frame_n{F} trap end ↪ trap
   trap_leaves : {n : ℕ} {F : List Word} {k : TrapKind} → Rewrites 0 (FrameOf n F (Trapped k ⨾ ε) ⨾ ε) (Trapped k ⨾ ε)
 
@@ -221,8 +220,7 @@ pub data Reduces {H O : Type 0} (M : Meaning H O) (m : ProgramForm) : ℕ → St
   -- S; F; memory.size ↪ S; F; (i32.const sz)
   memory_size : {S : StoreForm H O} {F : List Word} → Reduces M m 1 S F (op MemorySize ⨾ ε) S F (Const (I32 (pages_of S.memory)) ⨾ ε)
   -- S; F; (i32.const n) memory.grow ↪ S'; F; (i32.const sz), or S; F; (i32.const -1)
-  memory_grow : {S : StoreForm H O} {F : List Word} {n pages : ℕ} {mem : MemoryForm} →
-      grown S.memory n ≡ (Some pages, mem) →
+  memory_grow : {S : StoreForm H O} {F : List Word} {n pages : ℕ} {mem : MemoryForm} → grown S.memory n ≡ (Some pages, mem) →
       Reduces M m 1 S F (Const (I32 n) ⨾ op MemoryGrow ⨾ ε) (record S { memory = mem }) F (Const (I32 pages) ⨾ ε)
   memory_grow_fails : {S : StoreForm H O} {F : List Word} {n : ℕ} {mem : MemoryForm} →
       grown S.memory n ≡ (None, mem) → Reduces M m 1 S F (Const (I32 n) ⨾ op MemoryGrow ⨾ ε) S F (Const (I32 (2 ^ 32 - 1)) ⨾ ε)
@@ -314,12 +312,6 @@ EndsIn {H} {O} M m n c h out (ends.Trapped k) h' out' = (S : StoreForm H O) × (
 EndsIn {H} {O} M m n c h out ends.Exhausted h' out' = (S : StoreForm H O) × (S.host ≡ h') × (S.output ≡ out') × (es : Sequence) × CallsDeep m es
     × Chain M m n (store_of c h out) [] (nested c) S [] es
 EndsIn M m n c h out ends.Stuck h' out' = ⊥
-
--- A step is reductions that count one step, whatever was written before. An end is reductions too.
-abbrev pub IsStepReduced : {H O : Type 0} → Meaning H O → ProgramForm → Turn → Conf → H → Type 0
-IsStepReduced {H} {O} M m t c h =
-    ((out more : List O) (c' : Conf) (h' : H) → TakenAs M t h c.memory more c' h' → IsReduced M m 1 c h out c' h' (out ++ more))
-    × ((out more : List O) (e : End) (h' : H) → OverBy M t h c.memory more e h' → EndsIn M m 0 c h out e h' (out ++ more))
 
 -- A run of at most n steps, as it ended: reductions that count n; or no more than these, to its end; or fewer, before a step for which memory was wanting.
 abbrev pub IsRunReduced : {H O : Type 0} → Meaning H O → ProgramForm → ℕ → Conf → H → List O → List O → RunEnd → Conf → H → Type 0

@@ -1,6 +1,7 @@
 //! Hosts: who answers a module's imports.
 ghost use Rattle.std.specs.Prelude.{Bool, List, ℕ, ◌≡◌, Option, Some};
-ghost use Rattle.wasm_model.specs.Hosts.{Answers, GoesOn, Typed, found_as};
+ghost use Rattle.wasm_model.specs.Hosts.{Typed};
+ghost use Rattle.wasm_model.specs.HostAnswers.{Answers, GoesOn, found_as};
 ghost use Rattle.wasm_store.specs.Memories.{MemoryForm};
 ghost use Rattle.wasm_store.specs.declared.word.Word.{Word as AnyWord};
 ghost use Rattle.wasm_types.specs.Syntax.{Signature};

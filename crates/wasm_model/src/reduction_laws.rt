@@ -1,7 +1,7 @@
 //! Laws of the definitions.
 ghost use Rattle.wasm_model.specs.Frames.{FrameForm, local_step};
 ghost use Rattle.wasm_model.specs.Machines.{Conf, ProgramForm, turn};
-ghost use Rattle.wasm_model.specs.Reductions.{IsStepReduced};
+ghost use Rattle.wasm_model.specs.StepReductions.{IsStepReduced};
 ghost use Rattle.wasm_model.specs.Typed.{ConfOk, FrameOk, IsSafe, IsSafeTurn, ProgramOk};
 ghost use Rattle.wasm_types.specs.Typing.{Context};
 

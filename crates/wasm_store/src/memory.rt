@@ -1,6 +1,7 @@
 //! Linear memory (Core 1.0, section 4.2.8).
 ghost use Rattle.std.specs.Prelude.{◌≡◌, ◌+◌, ◌^◌, ◌≤◌, IfOk, IfSome, OnErr, length, Some, None, if◌then◌else◌};
-ghost use Rattle.wasm_store.specs.Memories.{fresh, number_at, load, word_if, put, put_if, store, written, grown, found, pages_of, told};
+ghost use Rattle.wasm_store.specs.Memories.{fresh, number_at, load, word_if, put, put_if, store, written, grown, pages_of};
+ghost use Rattle.wasm_store.specs.MemoryAnswers.{found, told};
 ghost use Rattle.wasm_types.specs.Typing.{loaded};
 
 use crate::trap::TrapKind;

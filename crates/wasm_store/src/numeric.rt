@@ -1,7 +1,8 @@
 //! Integer operators (Core 1.0, section 4.3.2).
 ghost use Rattle.std.specs.Int.{w32, w64};
 ghost use Rattle.std.specs.Prelude.{◌≡◌};
-ghost use Rattle.wasm_store.specs.Integers.{difference, quotient_signed, quotient_unsigned, remainder_signed, remainder_unsigned, shifted_left, shifted_right_signed, shifted_right_unsigned, rotated_left, rotated_right, binary_at, unary_at, test_at, compare_at};
+ghost use Rattle.wasm_store.specs.Integers.{quotient_signed, binary_at, unary_at, test_at, compare_at};
+ghost use Rattle.wasm_store.specs.IntegerParts.{difference, quotient_unsigned, remainder_signed, remainder_unsigned, shifted_left, shifted_right_signed, shifted_right_unsigned, rotated_left, rotated_right};
 ghost use Rattle.wasm_store.specs.Words.{binary_of, unary_of, test_of, compare_of, converted};
 
 use crate::trap::TrapKind;

@@ -3,7 +3,8 @@ use Rattle.std.specs.Prelude.{◌≡◌, ℕ, ◌+◌, ◌≤◌, max, List, [],
 use Rattle.wasm_types.specs.declared.types.ValType.{ValType}
 use Rattle.wasm_types.specs.declared.types.ValType.TheVariants.{I32, I64}
 use Rattle.wasm_types.specs.Syntax.{Instruction, Plain, BrTable, Block, Loop, If, Instructions, Done, Then}
-use Rattle.wasm_types.specs.Opcodes.{opcode, Immediates, Nothing, Index, Memory, Bits32, Bits64, IndexReserved, Reserved, immediates}
+use Rattle.wasm_types.specs.Opcodes.{opcode}
+use Rattle.wasm_types.specs.Immediates.{Immediates, Nothing, Index, Memory, Bits32, Bits64, IndexReserved, Reserved, immediates}
 use Rattle.wasm_types.specs.Leb128.{IsU32, IsS32, IsS64}
 use Rattle.wasm_types.specs.Profile.{most_nesting}
 
@@ -65,11 +66,10 @@ abbrev mutual
 -- how deep bodies are nested
 abbrev mutual
   pub depth : Instruction → ℕ
-  depth (Plain p) = 0
-  depth (BrTable ns n) = 0
   depth (Block k is) = depths is + 1
   depth (Loop k is) = depths is + 1
   depth (If k is js) = max (depths is) (depths js) + 1
+  depth _ = 0
 
   pub depths : Instructions → ℕ
   depths Done = 0

@@ -14,7 +14,8 @@ use Rattle.wasm_types.specs.declared.opcodes.IndexOp.{IndexOp}
 use Rattle.wasm_types.specs.declared.opcodes.IndexOp.TheVariants.{Br, BrIf, Call, LocalGet, LocalSet, LocalTee, GlobalGet, GlobalSet}
 use Rattle.wasm_types.specs.declared.opcodes.Lead.{Lead}
 use Rattle.wasm_types.specs.declared.opcodes.Lead.TheVariants as lead
-use Rattle.wasm_types.specs.Opcodes.{load_opcode, store_opcode, index_opcode, opcode, Immediates, Nothing, Index, immediates}
+use Rattle.wasm_types.specs.Opcodes.{load_opcode, store_opcode, index_opcode, opcode}
+use Rattle.wasm_types.specs.Immediates.{Immediates, Nothing, Index, immediates}
 
 abbrev pub NoImmediates : Immediates → Type 0
 NoImmediates Nothing = Unit {0}

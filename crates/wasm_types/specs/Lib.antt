@@ -2,6 +2,8 @@ pub mod Syntax
 pub mod Runs
 pub mod View
 pub mod Opcodes
+pub mod OpcodeTable
+pub mod Immediates
 pub mod Leads
 pub mod Leb128
 pub mod Leb128Texts

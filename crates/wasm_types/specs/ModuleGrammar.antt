@@ -110,8 +110,7 @@ no_parts = record {
   globals = [];
   exports = [];
   start = None;
-  elems =
-      [];
+  elems = [];
   codes = [];
   data_segments = [];
 }

@@ -1,4 +1,4 @@
--- The first byte of each instruction (Core 1.0, section 5.4; sign extension: Core 2.0), and what stands behind it.
+-- The first byte of each instruction, by cases. OpcodeTable has them in rows.
 use Rattle.std.specs.Prelude.{ℕ}
 use Rattle.wasm_types.specs.declared.types.ValType.{ValType}
 use Rattle.wasm_types.specs.declared.types.ValType.TheVariants.{I32, I64}
@@ -16,7 +16,6 @@ use Rattle.wasm_types.specs.declared.instr.LoadOp.{LoadOp}
 use Rattle.wasm_types.specs.declared.instr.LoadOp.TheVariants.{I32Load, I64Load, I32Load8S, I32Load8U, I32Load16S, I32Load16U, I64Load8S, I64Load8U, I64Load16S, I64Load16U, I64Load32S, I64Load32U}
 use Rattle.wasm_types.specs.declared.instr.StoreOp.{StoreOp}
 use Rattle.wasm_types.specs.declared.instr.StoreOp.TheVariants.{I32Store, I64Store, I32Store8, I32Store16, I64Store8, I64Store16, I64Store32}
-use Rattle.wasm_types.specs.declared.instr.MemArg.{MemArg}
 use Rattle.wasm_types.specs.declared.instr.Simple.{Simple}
 use Rattle.wasm_types.specs.declared.instr.Simple.TheVariants as simple
 use Rattle.wasm_types.specs.declared.opcodes.IndexOp.{IndexOp}
@@ -158,40 +157,3 @@ opcode (simple.Compare t op) = compare_opcode t op
 opcode (simple.Unary t op) = unary_opcode t op
 opcode (simple.Binary t op) = binary_opcode t op
 opcode (simple.Convert op) = convert_opcode op
-
--- what stands behind the opcode
-pub data Immediates : Type 0 where
-  Nothing : Immediates
-  Index : ℕ → Immediates
-  Memory : MemArg → Immediates
-  Bits32 : ℕ → Immediates
-  Bits64 : ℕ → Immediates
-  IndexReserved : ℕ → Immediates
-  Reserved : Immediates
-
-abbrev pub immediates : Simple → Immediates
-immediates simple.Unreachable = Nothing
-immediates simple.Nop = Nothing
-immediates simple.Return = Nothing
-immediates simple.Drop = Nothing
-immediates simple.Select = Nothing
-immediates (simple.Br n) = Index n
-immediates (simple.BrIf n) = Index n
-immediates (simple.Call n) = Index n
-immediates (simple.LocalGet n) = Index n
-immediates (simple.LocalSet n) = Index n
-immediates (simple.LocalTee n) = Index n
-immediates (simple.GlobalGet n) = Index n
-immediates (simple.GlobalSet n) = Index n
-immediates (simple.CallIndirect n) = IndexReserved n
-immediates (simple.Load op m) = Memory m
-immediates (simple.Store op m) = Memory m
-immediates simple.MemorySize = Reserved
-immediates simple.MemoryGrow = Reserved
-immediates (simple.I32Const n) = Bits32 n
-immediates (simple.I64Const n) = Bits64 n
-immediates (simple.Test t op) = Nothing
-immediates (simple.Compare t op) = Nothing
-immediates (simple.Unary t op) = Nothing
-immediates (simple.Binary t op) = Nothing
-immediates (simple.Convert op) = Nothing

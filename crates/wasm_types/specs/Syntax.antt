@@ -10,8 +10,7 @@ mutual
   pub data Instruction : Type 0 where
     Plain : Simple → Instruction
     BrTable : List ℕ → ℕ → Instruction
-    Block : Option ValType → Instructions → Instruction
-    Loop : Option ValType → Instructions → Instruction
+    Block Loop : Option ValType → Instructions → Instruction
     If : Option ValType → Instructions → Instructions → Instruction
 
   pub data Instructions : Type 0 where

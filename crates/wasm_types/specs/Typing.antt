@@ -6,7 +6,7 @@ use Rattle.wasm_types.specs.declared.types.ValType.TheVariants.{I32, I64}
 use Rattle.wasm_types.specs.declared.types.GlobalType.{GlobalType}
 use Rattle.wasm_types.specs.declared.types.Limits.{Limits}
 use Rattle.wasm_types.specs.declared.instr.CvtOp.{CvtOp}
-use Rattle.wasm_types.specs.declared.instr.CvtOp.TheVariants.{I32WrapI64, I64ExtendI32S, I64ExtendI32U, I32Extend8S, I32Extend16S, I64Extend8S, I64Extend16S, I64Extend32S}
+use Rattle.wasm_types.specs.declared.instr.CvtOp.TheVariants.{I32WrapI64, I64ExtendI32S, I64ExtendI32U, I32Extend8S, I32Extend16S}
 use Rattle.wasm_types.specs.declared.instr.LoadOp.{LoadOp}
 use Rattle.wasm_types.specs.declared.instr.LoadOp.TheVariants.{I32Load, I64Load, I32Load8S, I32Load8U, I32Load16S, I32Load16U, I64Load8S, I64Load8U, I64Load16S, I64Load16U, I64Load32S, I64Load32U}
 use Rattle.wasm_types.specs.declared.instr.StoreOp.{StoreOp}
@@ -35,8 +35,7 @@ pub record Context : Type 0 where
 pub data Effect : Type 0 where
   Fixed : (takes : List ValType) (gives : Option ValType) → Effect
   Leaves : (takes : List ValType) → Effect
-  Drops : Effect
-  Selects : Effect
+  Drops Selects : Effect
 
 -- [ps] to [rs]: the types of an instruction with such an effect. One that leaves takes anything below its operands, and gives anything.
 abbrev pub Types : Effect → List ValType → List ValType → Type 0
@@ -75,9 +74,7 @@ converted I64ExtendI32S = (I32, I64)
 converted I64ExtendI32U = (I32, I64)
 converted I32Extend8S = (I32, I32)
 converted I32Extend16S = (I32, I32)
-converted I64Extend8S = (I64, I64)
-converted I64Extend16S = (I64, I64)
-converted I64Extend32S = (I64, I64)
+converted _ = (I64, I64)
 
 abbrev pub set_effect : Bool → ValType → Option Effect
 set_effect true k = Some (Fixed (k ∷ []) None)

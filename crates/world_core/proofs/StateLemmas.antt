@@ -5,7 +5,8 @@ use Rattle.std.specs.Cmp.Lexicographic.{pointwise}
 use Rattle.std.proofs.Math.Path.{fun_ext}
 use Rattle.world_core.specs.declared.world.WorldFault.{WorldFault}
 use Rattle.world_core.specs.declared.world.WorldFault.TheVariants.{Failed, NoMemory}
-use Rattle.world_core.specs.WorldState.{Target, Standard, Named, same_target, Entry, bytes_of, Outside, replaced, Source, Action, Put, acted, target_of, is_about, step, after, puts}
+use Rattle.world_core.specs.WorldState.{Target, Standard, Named, same_target, Entry, bytes_of, Outside, replaced, Source, Action, Put, acted, target_of, step, after, puts}
+use Rattle.world_core.specs.About.{is_about}
 use Rattle.world_core.specs.Calls.{Writes}
 use Rattle.world_core.specs.Memory.{entry_of, entry_at, outside_of, memory_state, writers_of, put_entry, Takes, KeepsOtherNames, KeepsNames}
 use Rattle.world_core.specs.declared.file.MemFile.{MemFile}

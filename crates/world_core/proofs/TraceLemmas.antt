@@ -5,7 +5,8 @@ use Rattle.world_core.specs.declared.world.WorldFault.{WorldFault}
 use Rattle.world_core.specs.declared.world.WorldFault.TheVariants.{Failed, NoMemory}
 use Rattle.world_core.specs.WorldState.{Action, State}
 use Rattle.world_core.specs.Calls.{OpensToWrite, Writes}
-use Rattle.world_core.specs.Traces.{Call, DoesCall, Targets, Trace, actions_by, actions_of, next_targets, opening, targets_after, writing}
+use Rattle.world_core.specs.Traces.{Call, DoesCall, Targets, Trace, actions_by, actions_of, next_targets, opening, writing}
+use Rattle.world_core.specs.TraceParts.{targets_after}
 
 pub trace-append : {W : Type 0} (did : W → Call → W → Type 0) (old : W) (calls : List Call) (between : W) (more : List Call) (new : W) →
     Trace did old calls between → Trace did between more new → Trace did old (calls ++ more) new

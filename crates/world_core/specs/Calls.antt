@@ -7,9 +7,7 @@ use Rattle.world_core.specs.WorldState.{Named, Entry, free, State, Action, Open,
 
 -- what an open stream is for
 pub data Kind : Type 0 where
-  Closed : Kind
-  Reading : Kind
-  Writing : Kind
+  Closed Reading Writing : Kind
 
 abbrev pub set_kind : ℕ → Kind → (ℕ → Kind) → ℕ → Kind
 set_kind id kind kinds = λ k. cond (k == id) kind (kinds k)

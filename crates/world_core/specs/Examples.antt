@@ -4,7 +4,8 @@ use Rattle.world_core.specs.declared.world.Ending.TheVariants.{End}
 use Rattle.world_core.specs.declared.world.WorldFault.{WorldFault}
 use Rattle.world_core.specs.declared.world.WorldFault.TheVariants.{Failed}
 use Rattle.world_core.specs.WorldState.{Standard, Named, Entry, Outside, absent, free, replaced, Open, after, puts}
-use Rattle.world_core.specs.Traces.{Call, Opened, Wrote, Other, Targets, actions_by, actions_of, opening, targets_after, writing}
+use Rattle.world_core.specs.Traces.{Call, Opened, Wrote, Other, Targets, actions_by, actions_of, opening, writing}
+use Rattle.world_core.specs.TraceParts.{targets_after}
 
 -- where no name holds anything
 abbrev pub empty : Outside

@@ -1,5 +1,5 @@
 -- The calls that were made of a world, one after another, and what they give to the outside.
-use Rattle.std.specs.Prelude.{◌≡◌, ◌⊎◌, ℕ, ◌==◌, List, [], ◌∷◌, ◌++◌, take, cond, Bool, Result, Ok, Err}
+use Rattle.std.specs.Prelude.{◌≡◌, ℕ, ◌==◌, List, [], ◌∷◌, ◌++◌, take, cond, Bool, Result, Ok, Err}
 use Rattle.world_core.specs.WorldState.{Action, Named, Open, State, Target, puts}
 use Rattle.world_core.specs.Calls.{Does, OpensWriter}
 
@@ -25,24 +25,13 @@ abbrev pub Trace : {W : Type 0} → (W → Call → W → Type 0) → W → List
 Trace did old [] new = new ≡ old
 Trace {W = W} did old (call ∷ calls) new = (between : W) × did old call between × Trace did between calls new
 
--- a call is handed on to a world inside, or it gives nothing, and the world inside is as it was
-abbrev pub IsHandedOn : {W : Type 0} → (W → Call → W → Type 0) → W → Call → W → Type 0
-IsHandedOn did old (Opened name append id) new = did old (Opened name append id) new
-IsHandedOn did old (Wrote id bytes) new = did old (Wrote id bytes) new
-IsHandedOn did old Other new = did old Other new ⊎ (new ≡ old)
-
 -- Where the streams that are open for writing go, by their numbers. A number that is closed goes nowhere: none writes to it until it is opened anew.
 abbrev pub Targets : Type 0
 Targets = ℕ → Target
 
 abbrev pub next_targets : Call → Targets → Targets
 next_targets (Opened name append id) targets = λ k. cond (k == id) (Named name) (targets k)
-next_targets (Wrote id bytes) targets = targets
-next_targets Other targets = targets
-
-abbrev pub targets_after : List Call → Targets → Targets
-targets_after [] targets = targets
-targets_after (call ∷ calls) targets = targets_after calls (next_targets call targets)
+next_targets _ targets = targets
 
 abbrev pub actions_by : Call → Targets → List Action
 actions_by (Opened name append id) targets = Open name append ∷ []

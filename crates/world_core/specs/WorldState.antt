@@ -1,5 +1,5 @@
 -- The outside as a script sees it: what names hold, the streams that are open, and what output does to the names.
-use Rattle.std.specs.Prelude.{ℕ, ◌-◌, ◌==◌, List, [], ◌∷◌, ◌++◌, map, length, Bool, true, false, ◌||◌, cond, Option, Some, None}
+use Rattle.std.specs.Prelude.{ℕ, ◌-◌, ◌==◌, List, [], ◌∷◌, ◌++◌, map, length, Bool, true, false, cond, Option, Some, None}
 use Rattle.std.specs.Cmp.Lexicographic.{pointwise}
 use Rattle.world_core.specs.declared.world.Ending.{Ending}
 use Rattle.world_core.specs.declared.world.Ending.TheVariants.{End}
@@ -83,8 +83,3 @@ after (a ∷ rest) outside = after rest (step a outside)
 
 abbrev pub puts : Target → List ℕ → List Action
 puts t bytes = map (Put t) bytes
-
--- some action of an output is about a target
-abbrev pub is_about : Target → List Action → Bool
-is_about target [] = false
-is_about target (a ∷ rest) = same_target (target_of a) target || is_about target rest

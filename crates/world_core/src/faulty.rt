@@ -2,7 +2,8 @@
 ghost use Rattle.std.specs.Prelude.{◌≡◌, ◌≢◌, ◌↔◌, ◌<◌, ◌≤◌, ◌-◌, ◌+◌, ◌%◌, ◌^◌, length, Err, IsTrue, IsFalse, IfOk, OnErr};
 ghost use Rattle.world_core.specs.Calls.{Closed, Closes, Opens, OpensToRead, OpensToWrite, Reading, Reads, Writes, Writing, next_count, set_kind};
 ghost use Rattle.world_core.specs.Faulty.{calls_left, failed_here, inside};
-ghost use Rattle.world_core.specs.Traces.{IsHandedOn, Other, opening, writing};
+ghost use Rattle.world_core.specs.Traces.{Other, opening, writing};
+ghost use Rattle.world_core.specs.TraceParts.{IsHandedOn};
 
 use crate::{World, WorldFault};
 
@@ -57,7 +58,7 @@ impl<W: World> FaultyWorld<W> {
 /// Every other call is handed on: what the trait says of it is so of the inner world (`counted_inside`, `handed_on`).
 impl<W: World> World for FaultyWorld<W> {
     ghost use Rattle.world_core.specs.Faulty.{Fails, calls_left, failed_here, failures_of, inside};
-    ghost use Rattle.world_core.specs.Traces.{IsHandedOn};
+    ghost use Rattle.world_core.specs.TraceParts.{IsHandedOn};
 
     ghost is_modelled = { ⊥ };
 

@@ -1,7 +1,8 @@
 //! A world behind a fence.
 ghost use Rattle.std.specs.Prelude.{◌≡◌, ◌<◌, ◌≤◌, ◌+◌, ◌%◌, ◌^◌, ◌≢◌, true, false, length, Err, IfOk, OnErr};
 ghost use Rattle.world_core.specs.Calls.{Closed, Closes, Opens, OpensToRead, OpensToWrite, Reading, Reads, Writes, Writing, next_count, set_kind};
-ghost use Rattle.world_core.specs.Traces.{IsHandedOn, Other, opening, writing};
+ghost use Rattle.world_core.specs.Traces.{Other, opening, writing};
+ghost use Rattle.world_core.specs.TraceParts.{IsHandedOn};
 ghost use Rattle.world_os.specs.Behind.{behind};
 
 use crate::fence::Fence;
@@ -53,7 +54,7 @@ impl<W: World, F: Fence> FencedWorld<FaultyWorld<W>, F> {
 
 impl<W: World, F: Fence> World for FencedWorld<W, F> {
     ghost use Rattle.std.specs.Prelude.{◌+◌, ◌%◌, ◌^◌};
-    ghost use Rattle.world_core.specs.Traces.{IsHandedOn};
+    ghost use Rattle.world_core.specs.TraceParts.{IsHandedOn};
     ghost use Rattle.world_os.specs.Behind.{behind};
 
     ghost is_modelled = { W.is_modelled × F.alike };

@@ -1,7 +1,8 @@
 //! A world of which so many bytes are read and written at most.
 ghost use Rattle.std.specs.Prelude.{◌≡◌, ◌<◌, ◌≤◌, ◌+◌, ◌%◌, ◌^◌, ◌≢◌, ℕ, true, take, length, Err, IfOk, OnErr, OnOk};
 ghost use Rattle.world_core.specs.Calls.{Closed, Closes, Opens, OpensToRead, OpensToWrite, Reading, Reads, Writes, Writing, next_count, set_kind};
-ghost use Rattle.world_core.specs.Traces.{IsHandedOn, Other, opening, writing};
+ghost use Rattle.world_core.specs.Traces.{Other, opening, writing};
+ghost use Rattle.world_core.specs.TraceParts.{IsHandedOn};
 ghost use Rattle.world_os.specs.Limits.{AtLimit, MayPass, StartsWith, left, moved};
 
 use crate::meter::Meter;
@@ -80,7 +81,7 @@ impl<W: World> LimitedWorld<W> {
 
 impl<W: World> World for LimitedWorld<W> {
     ghost use Rattle.std.specs.Prelude.{◌+◌, ◌%◌, ◌^◌};
-    ghost use Rattle.world_core.specs.Traces.{IsHandedOn};
+    ghost use Rattle.world_core.specs.TraceParts.{IsHandedOn};
 
     ghost is_modelled = { ⊥ };
 

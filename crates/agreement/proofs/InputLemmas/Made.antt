@@ -3,8 +3,8 @@ use Rattle.std.proofs.Common.{◌≡◌, ℕ, suc, Bool, true, false, List, [], 
 use Rattle.awk_values.specs.declared.fault.Fault.{Fault}
 use Rattle.sem_primitives.specs.SharedState.{Inner, ◌>>=◌}
 use Rattle.sem_primitives.specs.Assignments.{assigned}
-use Rattle.sem_primitives.specs.InputMeaning.{start_by, start_from}
-use Rattle.sem_primitives.specs.Carried.{carried_from, counted_by}
+use Rattle.sem_primitives.specs.MainInput.{start_by, start_from}
+use Rattle.sem_primitives.specs.Carrying.{carried_from, counted_by}
 use Rattle.agreement.specs.Input.Assignments.{Answer, Makes, no_more, not_allowed, left_to_script, carried_out}
 
 pub makes : (pairs : List (List ℕ × List ℕ)) (inner : Inner) → Makes pairs inner (start_from pairs inner) (carried_from pairs inner)

@@ -8,8 +8,9 @@ use Rattle.sem_primitives.specs.SharedState.{Inner, MainReader, Standard, Operan
 use Rattle.sem_primitives.specs.Finds.{seen}
 use Rattle.sem_primitives.specs.Assignments.{assignment_of, assigned}
 use Rattle.sem_primitives.specs.Records.{Got, Record, AtEnd, Broken}
-use Rattle.sem_primitives.specs.InputMeaning.{next_record, reader_source, leaves, stops_reading, begins_reading, with_operands, got_main, read_main, reader_of, opened, made, file_or_assignment, taken, operand_text, passes_operand, over, follows, is_below, reached, reach, reach_by, next_operand, go_on, main_input}
-use Rattle.sem_primitives.specs.Carried.{counted_by, carried_behind, carried_reading, carried_opened, carried_operand, carried_taken, carried_reached, carried_reach, carried_by, carried_next, carried_on, carried_main}
+use Rattle.sem_primitives.specs.MainInput.{got_main, read_main, opened, made, file_or_assignment, taken, over, follows, reached, reach, reach_by, next_operand, go_on, main_input}
+use Rattle.sem_primitives.specs.InputParts.{next_record, reader_source, leaves, stops_reading, begins_reading, with_operands, reader_of, operand_text, passes_operand, is_below}
+use Rattle.sem_primitives.specs.Carrying.{counted_by, carried_behind, carried_reading, carried_opened, carried_operand, carried_taken, carried_reached, carried_reach, carried_by, carried_next, carried_on, carried_main}
 use Rattle.sem_primitives.specs.declared.constants.Special.TheVariants.{Argc}
 use Rattle.agreement.specs.Input.MainInput as walk
 use Rattle.agreement.specs.Input.MainInput.{Given, Stage, Reader, Operand, Gives, GivesNext, IsNext, IsPast}

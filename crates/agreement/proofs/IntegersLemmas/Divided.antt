@@ -11,7 +11,8 @@ use Rattle.std.proofs.lemmas.Bool.Decides.{nat_tests}
 use Rattle.std.proofs.lemmas.Int.{ints, to_z-of_z, quot-rem, rem_below}
 use Rattle.wasm_store.specs.declared.trap.TrapKind.{TrapKind}
 use Rattle.wasm_store.specs.declared.trap.TrapKind.TheVariants.{DivideByZero, IntegerOverflow}
-use Rattle.wasm_store.specs.Integers.{is_integer, quotient_signed, quotient_unsigned, remainder_signed, remainder_unsigned, shifted_right_signed}
+use Rattle.wasm_store.specs.Integers.{is_integer, quotient_signed}
+use Rattle.wasm_store.specs.IntegerParts.{quotient_unsigned, remainder_signed, remainder_unsigned, shifted_right_signed}
 use Rattle.agreement.specs.Integers.Arithmetic.{IsDivided, IsDividedSigned, IsDividedDown}
 use Rattle.agreement.proofs.IntegersLemmas.Wrapped.{signed_fits, twos_complement}
 

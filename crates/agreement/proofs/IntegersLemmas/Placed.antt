@@ -8,7 +8,7 @@ use mir.Val.{bits}
 use Rattle.std.proofs.lemmas.Nat.{pow-add, pow_pos, div_below, mod_below, mod_low, mod-mul-add, shl_below, shr_below, or_comm, or_shifted, leading_length, trailing_le, ones_cat, ones_le_self, div-add-mod'}
 use Rattle.std.proofs.lemmas.Nat.Bits.{bit_at_cat_low, bit_at-trailing_zeros, bit_at-zero}
 use Rattle.std.proofs.Math.Nat.{add-mul, mul_assoc, pow-suc}
-use Rattle.wasm_store.specs.Integers.{rotated_left, rotated_right}
+use Rattle.wasm_store.specs.IntegerParts.{rotated_left, rotated_right}
 use Rattle.agreement.specs.Integers.Bits.{IsRotatedLeft, HasLeadingZeros, HasTrailingZeros, ones_in_last}
 
 positive : (w : Width) → 0 < bits w

@@ -5,7 +5,8 @@ use Rattle.sem_primitives.specs.declared.sorts.Sort.TheVariants as sort
 use Rattle.wasm_store.specs.declared.word.Word.{Word}
 use Rattle.wasm_store.specs.declared.word.Word.TheVariants.{I32, I64}
 use Rattle.wasm_model.specs.Machines.{Conf}
-use Rattle.host_step.specs.HostState.{HostState, Names, live_arrays, live_iterators, live_values}
+use Rattle.host_step.specs.HostState.{HostState, Names}
+use Rattle.host_step.specs.Live.{live_arrays, live_iterators, live_values}
 use Rattle.host_step.specs.Tables.{look}
 use Rattle.mid_program.specs.Mid.{Program}
 use Rattle.mid_program.specs.Sorted.{kinds_of}

@@ -15,7 +15,8 @@ use Rattle.sem_primitives.specs.declared.table.Listed.{Listed}
 use Rattle.sem_primitives.specs.declared.table.Listed.TheVariants as listed
 use Rattle.sem_primitives.specs.declared.table.Primitive.{Primitive}
 use Rattle.sem_primitives.specs.declared.table.Primitive.TheVariants as row
-use Rattle.sem_primitives.specs.InputMeaning.{getline_line_row, getline_row, next_main_row, start_assign_row}
+use Rattle.sem_primitives.specs.Rows.{getline_line_row, getline_row, next_main_row}
+use Rattle.sem_primitives.specs.MainInput.{start_assign_row}
 use Rattle.lower_model.specs.Cells.{Cell, none_owned}
 use Rattle.lower_model.specs.ImportCalls.{Acts, Host, acted, acts, after_fault, call, fault_cell, last_of, listed_acts, look, looked_at, primitive_acts, replied, taken, where_so, with_some}
 use Rattle.host_imports.specs.Imports.{import_answer, import_arguments, lets_go}

@@ -13,19 +13,21 @@ use Rattle.world_core.specs.WorldState.{Outside, Source, Named}
 use Rattle.sem_primitives.specs.ArrayMeaning.{array, found, numbered, stored, visited, with_array}
 use Rattle.sem_primitives.specs.Assignments.{assigned, assigned_by, assigned_global, assignment_of, declared, made_here, named, takes_none}
 use Rattle.sem_primitives.specs.Constants.{specials}
-use Rattle.sem_primitives.specs.FieldMeaning.{at_least, done, field_number, joined, resized, set_field_row, set_special, set_special_row, special_text, with_field}
+use Rattle.sem_primitives.specs.FieldMeaning.{at_least, done, field_number, joined, resized, set_special, special_text, with_field}
+use Rattle.sem_primitives.specs.Rows.{set_field_row, set_special_row, getline_file_row, getline_line_file_row, getline_line_row, getline_row, next_main_row}
 use Rattle.sem_primitives.specs.FieldMeaning.{with_fields, with_record}
 use Rattle.sem_primitives.specs.Fields.{Separator, fields_of, pieces_of}
 use Rattle.sem_primitives.specs.FirstMatch.{first_match}
 use Rattle.sem_primitives.specs.Eres.{expression_of}
 use Rattle.sem_primitives.specs.Finds.{observed, observed_by, seen}
-use Rattle.sem_primitives.specs.InputMeaning.{Main, Taken, Over, Pending, NotOpened, Failed, as_line, as_record, begins_reading, counted_by, counted_record}
-use Rattle.sem_primitives.specs.InputMeaning.{file_named, file_or_assignment, follows}
-use Rattle.sem_primitives.specs.InputMeaning.{getline_by, getline_file_row, getline_line_file_row, getline_line_row, getline_of, getline_row, go_on, got_file, got_main}
-use Rattle.sem_primitives.specs.InputMeaning.{gives_up, is_below, leaves, made, main_input}
-use Rattle.sem_primitives.specs.InputMeaning.{next_main_row, next_of, next_operand, next_record, open_or_read, opened, opened_file, operand_text, over, passes_operand}
-use Rattle.sem_primitives.specs.InputMeaning.{reach, reach_by, reached, read_file, start_assign_row}
-use Rattle.sem_primitives.specs.InputMeaning.{read_main, reader_named, reader_of, reader_source, source_of, start_by, start_from, stops_reading, taken, with_operands}
+use Rattle.sem_primitives.specs.InputMeaning.{as_line, as_record, counted_by, counted_record}
+use Rattle.sem_primitives.specs.InputParts.{Main, Taken, Over, Pending, NotOpened, Failed, begins_reading, file_named, is_below, leaves, next_record, operand_text, passes_operand, reader_of, reader_source, source_of, stops_reading, with_operands}
+use Rattle.sem_primitives.specs.MainInput.{file_or_assignment, follows, go_on, got_main, made, main_input, next_operand, opened, over, reach, reach_by, reached, start_assign_row, read_main, start_by, start_from, taken}
+use Rattle.sem_primitives.specs.InputMeaning.{getline_by, getline_of, got_file}
+use Rattle.sem_primitives.specs.InputMeaning.{gives_up}
+use Rattle.sem_primitives.specs.InputMeaning.{next_of, open_or_read, opened_file}
+use Rattle.sem_primitives.specs.InputMeaning.{read_file}
+use Rattle.sem_primitives.specs.InputMeaning.{reader_named}
 use Rattle.sem_primitives.specs.InputMeaning.{with_reader}
 use Rattle.sem_primitives.specs.Numbers.{Number}
 use Rattle.sem_primitives.specs.OutputMeaning.{file_name, formatted_values, has_room, is_writing, kept_open, opened_if, operands_of, printed, printf_by, put_text}

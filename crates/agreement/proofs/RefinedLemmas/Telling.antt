@@ -4,7 +4,8 @@ use Rattle.std.proofs.lemmas.Option.{none-some}
 use Rattle.world_core.specs.WorldState.{Action}
 use Rattle.wasm_model.specs.Machines.{ProgramForm, turn}
 use Rattle.wasm_model.specs.Machines as real
-use Rattle.wasm_model.specs.Runs.{Did, IsStep, IsWithin, Ran, told_end, told_run}
+use Rattle.wasm_model.specs.Runs.{IsStep, IsWithin, Ran, told_end, told_run}
+use Rattle.wasm_model.specs.MachineRuns.{Did}
 use Rattle.wasm_model.specs.declared.ends.MachineEnd.{MachineEnd}
 use Rattle.wasm_model.specs.declared.ends.MachineEnd.TheVariants as told
 use Rattle.wasm_model.specs.declared.ends.End.{End}

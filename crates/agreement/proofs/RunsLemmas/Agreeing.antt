@@ -1,7 +1,7 @@
 -- What was told of a run is what the script does, where it and the module agree.
 use Rattle.std.proofs.Common.{◌≡◌, ℕ, List, ◌++◌, Option, Some, None, refl, sym, ◌∙◌, subst, append_assoc, arith}
 use Rattle.awk_values.specs.declared.fault.Fault.{Fault}
-use Rattle.sem_primitives.specs.InputMeaning.{to_come}
+use Rattle.sem_primitives.specs.InputParts.{to_come}
 use Rattle.sem_primitives.specs.Jobs.{Opened, JobForm, Closed, Environment}
 use Rattle.world_core.specs.WorldState.{Action, Outside, Source}
 use Rattle.wasm_types.specs.Syntax.{ModuleForm}
@@ -12,7 +12,8 @@ use Rattle.sem_scripts.specs.MoreTurns.{Grows, output_of}
 use Rattle.sem_scripts.specs.ScriptRun.{Ending, Exhausted, GoesOn, Setting, setting_in}
 use Rattle.agreement.specs.Modules.Agreement.{Agreement, Like, MayEnd, ModuleEnding, Trapped, ended_with, ending_told}
 use Rattle.agreement.specs.Modules.Over.{IsOver}
-use Rattle.agreement.specs.Runs.ToldRuns.{DoesSo, DoesSoThere, FoundRun, GoesOnThere, Says, Tells, TellsEnding, ToldRun, told_by}
+use Rattle.agreement.specs.Runs.ToldRuns.{DoesSo, DoesSoThere, FoundRun, GoesOnThere, Says, Tells, TellsEnding, ToldRun}
+use Rattle.agreement.specs.Runs.MachineEnds.{told_by}
 
 -- what grows from more grows from less
 grows_less : (a b xs : List Action) → Grows (a ++ b) xs → Grows a xs

@@ -5,7 +5,7 @@ use Rattle.sem_primitives.specs.Sorts.{InAnswer}
 use Rattle.sem_primitives.specs.declared.sorts.Answer.{Answer}
 use Rattle.wasm_store.specs.Memories.{MemoryForm}
 use Rattle.wasm_store.specs.declared.word.Word.{Word}
-use Rattle.wasm_model.specs.Hosts.{GoesOn}
+use Rattle.wasm_model.specs.HostAnswers.{GoesOn}
 use Rattle.wasm_model.specs.declared.host.HostAnswer.{HostAnswer}
 use Rattle.wasm_model.specs.declared.host.HostAnswer.TheVariants as told
 use Rattle.world_core.specs.WorldState.{Action}

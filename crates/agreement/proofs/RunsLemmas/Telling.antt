@@ -2,7 +2,7 @@
 use Rattle.std.proofs.Common.{◌≡◌, ◌≢◌, ℕ, ℤ, List, [], ◌++◌, Option, Some, None, refl, sym, ap, ◌∙◌, subst}
 use Rattle.std.specs.Int.{w32, cast_signed}
 use Rattle.awk_values.specs.declared.fault.Fault.{Fault}
-use Rattle.sem_primitives.specs.InputMeaning.{to_come}
+use Rattle.sem_primitives.specs.InputParts.{to_come}
 use Rattle.sem_primitives.specs.Jobs.{Opened, JobForm, Closed, Environment}
 use Rattle.world_core.specs.WorldState.{Action, Outside, Source}
 use Rattle.wasm_types.specs.Syntax.{ModuleForm}
@@ -13,7 +13,8 @@ use Rattle.wasm_store.specs.declared.word.Word.TheVariants.{I32, I64}
 use Rattle.wasm_model.specs.Hosts.{Typed}
 use Rattle.wasm_model.specs.Links.{IsNew, beginning}
 use Rattle.wasm_model.specs.Machines.{Conf, ProgramForm}
-use Rattle.wasm_model.specs.Runs.{Did, HasMore, MachineForm, Ran, told_run}
+use Rattle.wasm_model.specs.Runs.{MachineForm, Ran, told_run}
+use Rattle.wasm_model.specs.MachineRuns.{Did, HasMore}
 use Rattle.wasm_model.specs.Typed.{SafeRun}
 use Rattle.wasm_model.specs.declared.host.HostAnswer.{HostAnswer}
 use Rattle.wasm_model.specs.declared.ends.MachineEnd.{MachineEnd}

@@ -4,7 +4,8 @@ use Rattle.wasm_store.specs.Memories.{MemoryForm}
 use Rattle.wasm_store.specs.declared.word.Word.{Word}
 use Rattle.wasm_model.specs.Hosts.{Meaning}
 use Rattle.wasm_model.specs.Machines.{Asks, Conf, Ends, Goes, ProgramForm, Turn, turn}
-use Rattle.wasm_model.specs.Runs.{HasMore, IsNoTrap, OverBy, Ran, RefusedAs, Steps}
+use Rattle.wasm_model.specs.Runs.{IsNoTrap, OverBy, Ran, RefusedAs, Steps}
+use Rattle.wasm_model.specs.MachineRuns.{HasMore}
 use Rattle.wasm_model.specs.declared.host.HostAnswer.{HostAnswer}
 use Rattle.wasm_model.specs.declared.host.HostAnswer.TheVariants as told
 use Rattle.wasm_model.specs.declared.ends.End.TheVariants as ends

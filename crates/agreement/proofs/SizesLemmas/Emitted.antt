@@ -4,7 +4,7 @@ use Rattle.std.specs.Int.{w64, cast_unsigned}
 use Rattle.std.specs.Prelude.{if◌then◌else◌, get_or, ℤ, unsigned_abs}
 use Rattle.awk_values.specs.declared.comparison.CompareOp.{CompareOp}
 use Rattle.awk_values.specs.declared.comparison.CompareOp.TheVariants as op
-use Rattle.sem_primitives.specs.Constants.{comparison_number, destination_number, flag_number}
+use Rattle.sem_primitives.specs.ConstantNumbers.{comparison_number, destination_number, flag_number}
 use Rattle.sem_primitives.specs.Table.{arguments_of, answer_of, can_fault}
 use Rattle.sem_primitives.specs.declared.constants.Destination.{Destination}
 use Rattle.sem_primitives.specs.declared.constants.Destination.TheVariants.{Standard, Emptied, Appended}

@@ -6,7 +6,8 @@ use Rattle.awk_values.specs.declared.value.Value.{Value}
 use Rattle.awk_values.specs.declared.value.Value.TheVariants.{Text}
 use Rattle.sem_primitives.specs.SharedState.{Inner, Pairs}
 use Rattle.sem_primitives.specs.Texts.{same_text}
-use Rattle.sem_primitives.specs.ArrayMeaning.{array, element, iterate_row, keys, next_key_row, stored, visited, without}
+use Rattle.sem_primitives.specs.ArrayMeaning.{array, element, keys, stored, visited, without}
+use Rattle.sem_primitives.specs.Rows.{iterate_row, next_key_row}
 use Rattle.agreement.specs.Stores.Elements.{IsIn, IsSublist, empty, same, left_out}
 use Rattle.agreement.specs.Stores.Walks.{AreDistinct, Gives, ends, next, IsKept, NotAmong}
 use Rattle.agreement.proofs.StoresLemmas.Elements.{deletes, stores}

@@ -5,7 +5,8 @@ use Rattle.awk_tokens.specs.Words.{reserved_word_of}
 use Rattle.awk_grammar.specs.Kinds.{has_name, same_name, special_arrays, special_scalars}
 use Rattle.sem_primitives.specs.declared.constants.Special.{Special}
 use Rattle.sem_primitives.specs.declared.constants.Special.TheVariants.{Argc, Convfmt, Filename, Fnr, Fs, Nf, Nr, Ofmt, Ofs, Ors, Rlength, Rs, Rstart, Subsep}
-use Rattle.sem_primitives.specs.Constants.{special_number, specials}
+use Rattle.sem_primitives.specs.Constants.{specials}
+use Rattle.sem_primitives.specs.ConstantNumbers.{special_number}
 use Rattle.sem_primitives.specs.Assignments.{is_name, named, special_name, takes_none}
 use Rattle.sem_scripts.specs.Names.{is_special_array, special_array, special_in, special_named}
 use Rattle.agreement.proofs.TwinsLemmas.Words.{same_turned}

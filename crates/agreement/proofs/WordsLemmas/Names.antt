@@ -2,7 +2,8 @@
 use Rattle.std.proofs.Common.{◌≡◌, ℕ, Bool, true, false, ◌&&◌, ◌++◌, cond, nat_le, List, [], ◌∷◌, length, Option, Some, None, Result, Ok, Err, append-nil, refl, sym, ◌∙◌, subst}
 use Rattle.awk_values.specs.declared.fault.Fault.{Fault}
 use Rattle.sem_primitives.specs.InTurn.{in_turn, listed_in_turn, values_taken}
-use Rattle.sem_primitives.specs.InputMeaning.{getline_line_row, getline_row, next_main_row, start_assign_row}
+use Rattle.sem_primitives.specs.Rows.{getline_line_row, getline_row, next_main_row}
+use Rattle.sem_primitives.specs.MainInput.{start_assign_row}
 use Rattle.sem_primitives.specs.SharedState.{Inner, Shared, settles}
 use Rattle.sem_primitives.specs.Sorts.{InAnswer, Row}
 use Rattle.sem_primitives.specs.Table.{arguments_of, can_fault, listed_meaning, meaning}

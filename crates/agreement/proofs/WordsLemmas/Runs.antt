@@ -11,7 +11,7 @@ use Rattle.awk_values.specs.declared.fault.Fault.{Fault}
 use Rattle.awk_values.specs.declared.value.Value.TheVariants.{StrNum}
 use Rattle.sem_primitives.specs.ArrayMeaning.{element}
 use Rattle.sem_primitives.specs.Assignments.{assignment_of}
-use Rattle.sem_primitives.specs.InputMeaning.{text_or_none}
+use Rattle.sem_primitives.specs.InputParts.{text_or_none}
 use Rattle.sem_primitives.specs.Jobs.{JobForm, Environment, arguments_from, fault_of_job}
 use Rattle.sem_primitives.specs.SharedState.{Pairs}
 use Rattle.sem_primitives.specs.Texts.{same_text}

@@ -8,7 +8,7 @@ use Rattle.sem_primitives.specs.SharedState.{Inner, MainReader, Standard, NoFile
 use Rattle.sem_primitives.specs.Finds.{seen}
 use Rattle.sem_primitives.specs.Assignments.{assignment_of, assigned}
 use Rattle.sem_primitives.specs.Records.{Record, AtEnd, Broken}
-use Rattle.sem_primitives.specs.InputMeaning.{Main, Taken, Over, Pending, NotOpened, Failed, next_record, reader_source, leaves, stops_reading, begins_reading, with_operands, file_named, reader_of, operand_text, passes_operand, is_below}
+use Rattle.sem_primitives.specs.InputParts.{Main, Taken, Over, Pending, NotOpened, Failed, next_record, reader_source, leaves, stops_reading, begins_reading, with_operands, file_named, reader_of, operand_text, passes_operand, is_below}
 use Rattle.sem_primitives.specs.declared.constants.Special.TheVariants.{Argc}
 
 -- the state afterwards and what is given, or a fault
@@ -46,8 +46,7 @@ pub data Gives (outside : Outside) : Stage → Inner → Given → (made : ℕ) 
       next_record inner (reader_source reader inner) ≡ Ok (Record text, left) →
       Gives outside (Reader reader) inner (Ok (leaves reader left inner, Taken text)) 0
   -- or cannot be read on
-  broken : {reader : MainReader} {inner : Inner} (left : Source) →
-      next_record inner (reader_source reader inner) ≡ Ok (Broken, left) →
+  broken : {reader : MainReader} {inner : Inner} (left : Source) → next_record inner (reader_source reader inner) ≡ Ok (Broken, left) →
       Gives outside (Reader reader) inner (Ok (leaves reader left inner, Failed)) 0
   -- or its record is too long
   too_long : {reader : MainReader} {inner : Inner} {fault : Fault} →

@@ -1,7 +1,7 @@
 -- Which names the command line has assigned to in a run, by `-v` or by an operand: the host has each such assignment pending until the module makes it.
 use Rattle.std.specs.Prelude.{ℕ, zero, suc, ◌≡◌, ◌⊎◌, List, Some, slice_get}
 use Rattle.sem_primitives.specs.Assignments.{assignment_of, declared}
-use Rattle.sem_primitives.specs.InputMeaning.{operand_text}
+use Rattle.sem_primitives.specs.InputParts.{operand_text}
 use Rattle.sem_primitives.specs.Jobs.{JobForm, Environment}
 use Rattle.sem_primitives.specs.declared.constants.NameKind.TheVariants.{Scalar}
 use Rattle.awk_values.specs.declared.value.Value.{Value}

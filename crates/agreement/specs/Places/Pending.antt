@@ -2,7 +2,8 @@
 use Rattle.std.specs.Prelude.{ℕ, ◌+◌, ◌≡◌, ◌≤◌, List, [], ◌∷◌, Option, Some, get_or, slice_get}
 use Rattle.sem_primitives.specs.declared.sorts.Sort.{Sort}
 use Rattle.wasm_model.specs.Machines.{CallerForm, Conf}
-use Rattle.host_step.specs.HostState.{HostState, live_values}
+use Rattle.host_step.specs.HostState.{HostState}
+use Rattle.host_step.specs.Live.{live_values}
 use Rattle.mid_program.specs.Mid.{Program}
 use Rattle.mid_program.specs.Sorted.{kinds_of}
 use Rattle.lower_model.specs.Modules.{all_callees}

@@ -5,7 +5,8 @@ use Rattle.world_core.specs.WorldState.{Action}
 use Rattle.wasm_model.specs.declared.ends.MachineEnd.TheVariants as machine
 use Rattle.wasm_store.specs.declared.trap.TrapKind.TheVariants.{BadHandle}
 use Rattle.sem_scripts.specs.ScriptRun.{Ended, Exhausted, FaultedBy, GoesOn}
-use Rattle.agreement.specs.Runs.ToldRuns.{Says, told_by}
+use Rattle.agreement.specs.Runs.ToldRuns.{Says}
+use Rattle.agreement.specs.Runs.MachineEnds.{told_by}
 
 module _ (output more : List Action) where
   -- a status; a fault, whatever was returned; too many nested calls

@@ -1,7 +1,7 @@
 -- What a machine tells of a run whose host is told by its tables.
 use Rattle.std.specs.Prelude.{◌≡◌, ℕ, ◌+◌, ◌*◌, ◌≤◌, List, ◌++◌, Option, Some}
 use Rattle.awk_values.specs.declared.fault.Fault.{Fault}
-use Rattle.sem_primitives.specs.InputMeaning.{to_come}
+use Rattle.sem_primitives.specs.InputParts.{to_come}
 use Rattle.sem_primitives.specs.Jobs.{Opened, JobForm, Closed, Environment}
 use Rattle.world_core.specs.WorldState.{Action, Entry, Outside, Source, after as outside_after}
 use Rattle.wasm_types.specs.Syntax.{ModuleForm}
@@ -14,8 +14,8 @@ use Rattle.wasm_model.specs.declared.ends.RunEnd.{RunEnd}
 use Rattle.wasm_model.specs.declared.ends.RunEnd.TheVariants.{Ended, NoMemory, OutOfSteps}
 use Rattle.host_values.specs.Forms.{HostForm}
 use Rattle.sem_scripts.specs.MoreTurns.{Grows, output_of}
-use Rattle.sem_scripts.specs.ScriptRun.{Ending, Exhausted, Setting, setting_in, setting_of}
-use Rattle.agreement.specs.Modules.Agreement.{MayEnd, ModuleEnding, ended_with, ending_told, output_in}
+use Rattle.sem_scripts.specs.ScriptRun.{Ending, Setting, setting_in, setting_of}
+use Rattle.agreement.specs.Modules.Agreement.{MayEnd, ModuleEnding, ending_told, output_in}
 use Rattle.agreement.specs.Modules.Over.{IsOver}
 
 -- what was told, with this fault kept and this output, is how the module may end
@@ -52,8 +52,7 @@ pub record FoundRun (m : ModuleForm) (job : JobForm) (steps : ℕ) (e : MachineE
 -- What is told of a script: how it ends; that it puts something out, where steps or memory did not suffice; or what no script does.
 pub data Told : Type 0 where
   Ends : (List Action → Ending) → Told
-  PutsOut : Told
-  Never : Told
+  PutsOut Never : Told
 
 -- what that says of how the script ends, after this output: so; or that it has put out so much at least
 abbrev pub Says : Told → List Action → Ending → Type 0
@@ -78,11 +77,3 @@ pub record DoesSoThere (script : Setting → ℕ → Ending) (job : JobForm) (fi
 abbrev pub GoesOnThere : (Setting → ℕ → Ending) → JobForm → List Entry → (bound steps : ℕ) → Type 0
 GoesOnThere script job finds bound steps = (turns : ℕ) → bound * (turns + 1) ≤ steps
     → IsOver (script (setting_in job to_come (Opened finds)) turns) → ⊥
-
--- what a machine's end tells, with this fault kept; a script never traps
-abbrev pub told_by : Option Fault → MachineEnd → Told
-told_by kept (machine.Returned n) = Ends (ended_with kept n)
-told_by kept machine.Exhausted = Ends Exhausted
-told_by kept machine.OutOfSteps = PutsOut
-told_by kept machine.NoMemory = PutsOut
-told_by kept (machine.Trapped kind) = Never

@@ -4,7 +4,8 @@ use Rattle.std.specs.Fmt.{digits}
 use Rattle.awk_text.specs.Escapes.{unescaped, escaped, octal}
 use Rattle.awk_text.specs.Number.{numerator, denominator}
 use Rattle.awk_text.specs.Reading.{numeral_at, sign_at, fraction_at, exponent_at}
-use Rattle.ere_syntax.specs.Scan.{table, sign_of}
+use Rattle.ere_syntax.specs.Scan.{table}
+use Rattle.ere_syntax.specs.Readers.{sign_of}
 use Rattle.world_core.specs.WorldState.{Standard, Outside, Source, absent, puts}
 use Rattle.world_core.specs.declared.world.Ending.TheVariants.{End}
 use Rattle.sem_primitives.specs.Jobs.{JobForm}

@@ -2,7 +2,7 @@
 use Rattle.std.specs.Prelude.{◌≡◌, ◌≢◌, ℕ, List, [], ◌∷◌, slice_get, Some, None}
 use Rattle.awk_values.specs.declared.value.Value.TheVariants.{Text}
 use Rattle.sem_primitives.specs.SharedState.{Inner}
-use Rattle.sem_primitives.specs.ArrayMeaning.{next_key_row}
+use Rattle.sem_primitives.specs.Rows.{next_key_row}
 
 abbrev pub NotAmong : List ℕ → List (List ℕ) → Type 0
 NotAmong key [] = Unit {0}

@@ -3,7 +3,7 @@ ghost use Rattle.std.specs.Prelude.{◌≡◌, [], ◌∷◌, ◌++◌, IfOk, On
 ghost use Rattle.awk_grammar.specs.Item.{print_item, print_pattern};
 ghost use Rattle.awk_grammar.specs.Trees.{Between, Lone, When};
 ghost use Rattle.awk_grammar.specs.View.{view};
-ghost use Rattle.awk_grammar.specs.Lexeme.{lexemes};
+ghost use Rattle.awk_tree.specs.Lexemes.{lexemes};
 ghost use Rattle.awk_grammar.specs.ViewStmt.{view_item, view_items, view_names, view_pattern, view_stmts};
 ghost use Rattle.awk_tree.specs.Lines.{asked_places, function_head, functions_places, item_places, main_places, pattern_places, places_in, places_where};
 ghost use Rattle.awk_tree.specs.Parts.{is_in};

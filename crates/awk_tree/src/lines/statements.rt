@@ -4,7 +4,7 @@ ghost use Rattle.awk_grammar.specs.Token.{Key, WhileWord};
 ghost use Rattle.awk_grammar.specs.Stmt.{print_stmt, print_stmts};
 ghost use Rattle.awk_grammar.specs.Trees.{Jumping};
 ghost use Rattle.awk_grammar.specs.Item.{print_body};
-ghost use Rattle.awk_grammar.specs.Lexeme.{lexemes};
+ghost use Rattle.awk_tree.specs.Lexemes.{lexemes};
 ghost use Rattle.awk_grammar.specs.View.{view};
 ghost use Rattle.awk_grammar.specs.ViewStmt.{view_jump, view_maybe, view_maybe_simple, view_stmt, view_stmts};
 ghost use Rattle.awk_tree.specs.Lines.{action_places, condition, last_of, stmt_places, stmts_places, to_body, to_first, to_last, to_test};

@@ -4,7 +4,7 @@ use Rattle.clap.specs.Words.{Text, takes}
 use Rattle.command_line.specs.Line.{line_app}
 use Rattle.command_line.specs.Request.{texts}
 use Rattle.command_line.specs.Spelling.{spelled_line}
-use Rattle.run_tasks.specs.declared.task_error.TaskError.TheVariants.{NoMemory}
+use Rattle.task_pages.specs.declared.task_error.TaskError.TheVariants.{NoMemory}
 use Rattle.awkwasm.proofs.answer_arguments.Goals as goal
 
 pub returns-clause-err : goal.returns-clause-err

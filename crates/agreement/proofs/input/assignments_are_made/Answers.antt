@@ -1,5 +1,5 @@
 use Rattle.std.proofs.Common.{subst}
-use Rattle.sem_primitives.specs.Carried.{carried_from}
+use Rattle.sem_primitives.specs.Carrying.{carried_from}
 use Rattle.agreement.specs.Input.Assignments.{Makes}
 use Rattle.agreement.proofs.InputLemmas.Made.{made, makes}
 use Rattle.agreement.proofs.input.assignments_are_made.Goals as goal

@@ -1,8 +1,8 @@
 use Rattle.std.proofs.Common.{◌≡◌, ℕ, subst}
 use Rattle.world_core.specs.WorldState.{Outside}
 use Rattle.sem_primitives.specs.SharedState.{Inner}
-use Rattle.sem_primitives.specs.InputMeaning.{main_input}
-use Rattle.sem_primitives.specs.Carried.{carried_main}
+use Rattle.sem_primitives.specs.MainInput.{main_input}
+use Rattle.sem_primitives.specs.Carrying.{carried_main}
 use Rattle.agreement.specs.Input.MainInput.{Given, GivesNext}
 use Rattle.agreement.proofs.InputLemmas.Given.{main_gives}
 use Rattle.agreement.proofs.InputLemmas.Walked.{main_says}

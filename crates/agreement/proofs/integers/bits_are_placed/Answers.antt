@@ -2,7 +2,7 @@ use Rattle.std.proofs.Common.{ℕ, ◌≡◌, ◌+◌, ◌%◌, min, max, subst}
 use Rattle.std.specs.Prelude.{bit_and, bit_or, bit_xor}
 use mir.Val.{bits}
 use Rattle.std.proofs.lemmas.Nat.Bits.{bit_at_and, bit_at_or, bit_at_xor}
-use Rattle.wasm_store.specs.Integers.{rotated_left, rotated_right}
+use Rattle.wasm_store.specs.IntegerParts.{rotated_left, rotated_right}
 use Rattle.agreement.specs.Integers.Bits.{IsBitwise, IsRotatedLeft}
 use Rattle.agreement.proofs.IntegersLemmas.Placed.{ones_counted, rotates, rotates_back, zeros_lead, zeros_trail}
 use Rattle.agreement.proofs.integers.bits_are_placed.Goals as goal

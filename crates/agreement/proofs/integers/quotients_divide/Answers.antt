@@ -1,7 +1,7 @@
 use Rattle.std.proofs.Common.{◌≡◌, ℕ, ◌%◌, ◌^◌, subst}
 use mir.Val.{bits}
 use Rattle.std.proofs.lemmas.Nat.{pow_pos}
-use Rattle.wasm_store.specs.Integers.{shifted_right_signed, shifted_right_unsigned}
+use Rattle.wasm_store.specs.IntegerParts.{shifted_right_signed, shifted_right_unsigned}
 use Rattle.agreement.specs.Integers.Arithmetic.{IsDivided}
 use Rattle.agreement.proofs.IntegersLemmas.Divided.{divided, shifted, signed_quotient, signed_rest, unsigned_quotient, unsigned_rest}
 use Rattle.agreement.proofs.integers.quotients_divide.Goals as goal

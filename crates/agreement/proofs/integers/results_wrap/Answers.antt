@@ -1,6 +1,6 @@
 use Rattle.std.proofs.Common.{◌≡◌, ℕ, ◌+◌, ◌*◌, ◌%◌, ◌^◌, ◌<◌, subst}
 use mir.Val.{bits}
-use Rattle.wasm_store.specs.Integers.{difference}
+use Rattle.wasm_store.specs.IntegerParts.{difference}
 use Rattle.agreement.specs.Integers.Arithmetic.{IsLeft}
 use Rattle.agreement.proofs.IntegersLemmas.Wrapped.{difference_left, left}
 use Rattle.agreement.proofs.integers.results_wrap.Goals as goal

@@ -1,7 +1,6 @@
 use Rattle.std.proofs.Common.{List, subst}
-use Rattle.awk_grammar.specs.Kinds.{distinct_parameters}
+use Rattle.awk_resolve.specs.ViewVariables.{distinct_parameters, AreKeys}
 use Rattle.awk_resolve.specs.ViewNames.{names, view_heads}
-use Rattle.awk_resolve.specs.ViewVariables.{AreKeys}
 use Rattle.awk_resolve.specs.declared.scopes.Head.{Head}
 use Rattle.awk_resolve.proofs.Noted.{begun, first_marks}
 use Rattle.awk_resolve.proofs.uses.first_uses.Goals as goal

@@ -1,6 +1,6 @@
 use Rattle.std.proofs.Common.{◌≡◌, ◌++◌, drop}
 use Rattle.awk_grammar.specs.Item.{print_script}
-use Rattle.awk_grammar.specs.Lexeme.{lexemes}
+use Rattle.awk_tree.specs.Lexemes.{lexemes}
 use Rattle.awk_grammar.specs.ViewStmt.{view_items}
 use Rattle.awk_tree.proofs.printer.push_items.Given as goal
 

@@ -1,6 +1,6 @@
 use Rattle.std.proofs.Common.{◌≡◌, ◌++◌, drop}
 use Rattle.awk_grammar.specs.Stmt.{print_stmts}
-use Rattle.awk_grammar.specs.Lexeme.{lexemes}
+use Rattle.awk_tree.specs.Lexemes.{lexemes}
 use Rattle.awk_grammar.specs.ViewStmt.{view_stmts}
 use Rattle.awk_tree.proofs.printer_stmt.+printer_stmt.Given as goal
 

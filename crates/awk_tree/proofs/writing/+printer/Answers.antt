@@ -3,7 +3,7 @@ use Rattle.std.proofs.lemmas.Result.{on_ok_weaker}
 use Rattle.awk_grammar.specs.Token.{Token, Open, Close, Comma, InWord, Name}
 use Rattle.awk_grammar.specs.Tree.{print, print_list}
 use Rattle.awk_grammar.specs.Trees.{Tree, Trees, HasList}
-use Rattle.awk_grammar.specs.Lexeme.{lexemes}
+use Rattle.awk_tree.specs.Lexemes.{lexemes}
 use Rattle.awk_grammar.specs.View.{view, views}
 use Rattle.awk_grammar.proofs.Views.{element_is, call_is, apply_is, in_list_is}
 use Rattle.awk_tree.proofs.Parts.{two_parts, three_parts, four_parts}

@@ -1,6 +1,6 @@
 use Rattle.std.proofs.Common.{◌≡◌, ◌++◌, drop}
 use Rattle.awk_grammar.specs.Tree.{print_more}
-use Rattle.awk_grammar.specs.Lexeme.{lexemes}
+use Rattle.awk_tree.specs.Lexemes.{lexemes}
 use Rattle.awk_grammar.specs.View.{views}
 use Rattle.awk_tree.proofs.writing.+printer.Given as goal
 

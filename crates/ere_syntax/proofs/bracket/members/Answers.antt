@@ -1,5 +1,5 @@
 use Rattle.std.proofs.Common.{rules, sym, ap, ◌∙◌}
-use Rattle.ere_syntax.specs.Bracket.{member_at}
+use Rattle.ere_syntax.specs.Readers.{member_at}
 use Rattle.ere_syntax.specs.Reads.{closed_by}
 use Rattle.ere_syntax.specs.declared.bracket.Front.{Front}
 use Rattle.ere_syntax.proofs.Members.{items_and, read_start, read_next, read_none, read_end, item_less}

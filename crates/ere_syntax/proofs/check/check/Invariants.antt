@@ -1,6 +1,6 @@
 use Rattle.std.proofs.Common.{◌≡◌, ◌≤◌, ◌+◌, length}
 use Rattle.ere_syntax.specs.Reading.{is_some}
-use Rattle.ere_syntax.specs.Scan.{ere_of}
+use Rattle.ere_syntax.specs.EreOf.{ere_of}
 use Rattle.ere_syntax.proofs.Texts.{checked}
 use Rattle.ere_syntax.proofs.check.check.Given as goal
 

@@ -1,5 +1,5 @@
 use Rattle.std.proofs.Common.{refl, sym, ap, ◌∙◌, arith, ℕ, List}
-use Rattle.ere_syntax.specs.Bracket.{strip}
+use Rattle.ere_syntax.specs.Readers.{strip}
 use Rattle.ere_syntax.specs.Reads.{class_read}
 use Rattle.ere_syntax.proofs.Lexes.{class_next, class_some}
 use Rattle.ere_syntax.proofs.class.class_of.Goals as goal

@@ -1,5 +1,5 @@
 use Rattle.std.proofs.Common.{◌≡◌, ◌≤◌, drop}
-use Rattle.ere_syntax.specs.Scan.{digits_at}
+use Rattle.ere_syntax.specs.Readers.{digits_at}
 use Rattle.ere_syntax.specs.Counts.{saturated}
 use Rattle.ere_syntax.proofs.interval.digits.Given as goal
 

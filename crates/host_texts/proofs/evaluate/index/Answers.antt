@@ -10,7 +10,8 @@ use Rattle.host_values.specs.Evaluations.{Evaluation, NoTrap, Values}
 use Rattle.host_texts.specs.Evaluations.{number_reply}
 use Rattle.host_values.specs.declared.reply.Reply.TheVariants as reply
 use Rattle.sem_primitives.specs.Texts.{counted}
-use Rattle.sem_primitives.specs.TextMeaning.{index_row, place_of}
+use Rattle.sem_primitives.specs.TextMeaning.{place_of}
+use Rattle.sem_primitives.specs.Rows.{index_row}
 use Rattle.host_texts.proofs.evaluate.index.Goals as goal
 
 abbrev comes : HostState → AnyValue → AnyValue → Values → Evaluation

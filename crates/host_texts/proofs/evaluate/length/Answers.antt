@@ -10,7 +10,7 @@ use Rattle.host_values.specs.Evaluations.{Evaluation, Values}
 use Rattle.host_texts.specs.Evaluations.{number_reply}
 use Rattle.host_values.specs.declared.reply.Reply.TheVariants as reply
 use Rattle.sem_primitives.specs.Texts.{counted}
-use Rattle.sem_primitives.specs.TextMeaning.{length_row}
+use Rattle.sem_primitives.specs.Rows.{length_row}
 use Rattle.host_texts.proofs.evaluate.length.Goals as goal
 
 abbrev comes : HostState → AnyValue → Values → Evaluation

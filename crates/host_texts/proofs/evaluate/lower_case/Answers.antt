@@ -9,7 +9,8 @@ use Rattle.host_values.specs.Evaluations.{Evaluation, NoTrap, Values}
 use Rattle.host_values.specs.declared.reply.Reply.TheVariants as reply
 use Rattle.std.proofs.Common.{map as mapped}
 use Rattle.awk_values.specs.declared.value.Value.TheVariants as value
-use Rattle.sem_primitives.specs.TextMeaning.{lower, lower_row}
+use Rattle.sem_primitives.specs.TextMeaning.{lower}
+use Rattle.sem_primitives.specs.Rows.{lower_row}
 use Rattle.host_texts.proofs.evaluate.lower_case.Goals as goal
 
 abbrev comes : HostState → AnyValue → Values → Evaluation

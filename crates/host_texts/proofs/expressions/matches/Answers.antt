@@ -10,7 +10,7 @@ use Rattle.host_values.specs.Evaluations.{Evaluation, NoTrap, Values}
 use Rattle.host_texts.specs.Evaluations.{replied}
 use Rattle.host_values.specs.declared.reply.Reply.{Reply}
 use Rattle.host_values.specs.declared.reply.Reply.TheVariants as reply
-use Rattle.sem_primitives.specs.TextMeaning.{matches_row}
+use Rattle.sem_primitives.specs.Rows.{matches_row}
 use Rattle.host_texts.proofs.expressions.matches.Goals as goal
 
 abbrev comes : HostState → AnyValue → AnyValue → Values → Evaluation

@@ -11,7 +11,7 @@ use Rattle.host_texts.specs.Evaluations.{replied}
 use Rattle.host_texts.specs.States.{holding}
 use Rattle.host_values.specs.declared.reply.Reply.{Reply}
 use Rattle.host_values.specs.declared.reply.Reply.TheVariants as reply
-use Rattle.sem_primitives.specs.ArrayMeaning.{join_row}
+use Rattle.sem_primitives.specs.Rows.{join_row}
 use Rattle.host_texts.proofs.join.join_texts.Goals as goal
 
 abbrev comes : HostState → AnyValue → AnyValue → Values → Evaluation

@@ -1,6 +1,6 @@
 use Rattle.std.proofs.Common.{rules, ◌≡◌, false, is_some, Some, Ok, sym, subst}
 use Rattle.awk_values.specs.declared.fault.Stop.{Stop}
-use Rattle.sem_primitives.specs.InputMeaning.{start_assign_row}
+use Rattle.sem_primitives.specs.MainInput.{start_assign_row}
 use Rattle.sem_primitives.specs.declared.table.Primitive.TheVariants as row
 use Rattle.wasm_store.specs.declared.word.Word.{Word}
 use Rattle.host_imports.specs.declared.import.Import.TheVariants.{OfPrimitive}

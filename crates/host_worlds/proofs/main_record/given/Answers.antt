@@ -1,5 +1,5 @@
 use Rattle.std.proofs.Common.{ap, sym, ◌∙◌}
-use Rattle.sem_primitives.specs.InputMeaning.{main_input}
+use Rattle.sem_primitives.specs.MainInput.{main_input}
 use Rattle.host_worlds.specs.States.{Over, with_tables}
 use Rattle.host_worlds.proofs.MainFound.{found_given, found_on, found_stop}
 use Rattle.host_worlds.proofs.Turns.{moved_on, turn_none, turn_some}

@@ -1,5 +1,5 @@
 use Rattle.std.proofs.Common.{◌≡◌}
-use Rattle.sem_primitives.specs.InputMeaning.{main_input}
+use Rattle.sem_primitives.specs.MainInput.{main_input}
 use Rattle.sem_primitives.specs.SharedState.{Inner}
 use Rattle.host_streams.specs.Given.{GivesNone}
 use Rattle.host_streams.specs.OpenFiles.{WritersGo}

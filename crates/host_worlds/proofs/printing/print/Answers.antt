@@ -1,5 +1,5 @@
 use Rattle.std.proofs.Common.{◌≡◌, ◌-◌, [], take, Ok, Err, ap, subst, sym, ◌∙◌}
-use Rattle.sem_primitives.specs.OutputMeaning.{print_row}
+use Rattle.sem_primitives.specs.Rows.{print_row}
 use Rattle.host_imports.specs.declared.import.Import.TheVariants.{Variadic}
 use Rattle.host_imports.specs.declared.import.VariadicImport.TheVariants.{Print}
 use Rattle.host_streams.specs.OpenFiles.{names_of, readers_in}

@@ -1,6 +1,6 @@
 use Rattle.std.proofs.Common.{sym, ap, subst, ◌∙◌}
 use Rattle.awk_values.specs.Values.{number_of_value, text_of_value}
-use Rattle.sem_primitives.specs.InputMeaning.{main_input}
+use Rattle.sem_primitives.specs.MainInput.{main_input}
 use Rattle.sem_primitives.specs.Records.{record_separator}
 use Rattle.host_streams.specs.Mains.{AnswerIs}
 use Rattle.host_worlds.specs.States.{Finding, Over, with_tables}

@@ -1,5 +1,5 @@
 use Rattle.std.proofs.Common.{◌++◌, refl, ap, subst, sym, ◌∙◌, true, false}
-use Rattle.sem_primitives.specs.InputMeaning.{main_input}
+use Rattle.sem_primitives.specs.MainInput.{main_input}
 use Rattle.host_streams.specs.declared.main_input.MainNext.TheVariants as main
 use Rattle.host_worlds.specs.Givens.{TurnGives}
 use Rattle.host_worlds.specs.States.{Finding, Over, with_input, with_tables}

@@ -3,7 +3,7 @@ use Rattle.std.proofs.lemmas.List.{drop_all}
 use Rattle.awk_grammar.specs.ViewStmt.{view_items}
 use Rattle.awk_grammar.specs.declared.tree.Item.{Item}
 use Rattle.awk_resolve.proofs.Names.{drop_at}
-use Rattle.sem_scripts.specs.Items.{range_count}
+use Rattle.sem_scripts.specs.Ranges.{range_count}
 use Rattle.mid_program.specs.Translation.{begin_code, end_code, items_code}
 use Rattle.mid_code.specs.ViewScope.{scope_of, texts_of}
 use Rattle.mid_code.specs.ViewSteps.{chain}

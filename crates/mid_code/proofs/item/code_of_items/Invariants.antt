@@ -1,6 +1,6 @@
 use Rattle.std.proofs.Common.{◌≡◌, ◌+◌, ◌≤◌, drop}
 use Rattle.awk_grammar.specs.ViewStmt.{view_items}
-use Rattle.sem_scripts.specs.Items.{range_count}
+use Rattle.sem_scripts.specs.Ranges.{range_count}
 use Rattle.mid_program.specs.Translation.{begin_code, end_code, items_code}
 use Rattle.mid_code.specs.ViewScope.{scope_of, texts_of}
 use Rattle.mid_code.specs.ViewSteps.{chain}

@@ -7,7 +7,8 @@ use Rattle.awk_grammar.specs.declared.tree.Item.{Item}
 use Rattle.awk_resolve.specs.ViewKinds.{view_name_kinds}
 use Rattle.awk_resolve.specs.declared.function_names.NameKind.{NameKind}
 use Rattle.awk_resolve.specs.declared.resolved.Resolved.{Resolved}
-use Rattle.sem_scripts.specs.Items.{range_count, reads_records, top}
+use Rattle.sem_scripts.specs.Items.{reads_records, top}
+use Rattle.sem_scripts.specs.Ranges.{range_count}
 use Rattle.mid_program.specs.Translation.{begin_code, declared_code, end_code, items_code, program_with, routine_code}
 use Rattle.mid_program.specs.declared.program.Declared.{Declared}
 use Rattle.mid_program.specs.declared.program.Routine.{Routine}

@@ -1,5 +1,5 @@
 use Rattle.std.proofs.Common.{ap, inr, refl}
-use Rattle.run_tasks.specs.Jobs.{files_of_task}
+use Rattle.task_pages.specs.Jobs.{files_of_task}
 use Rattle.run_tasks.proofs.Outlets.{module_out, none_out}
 use Rattle.run_tasks.proofs.Unknown.{any_module}
 use Rattle.run_tasks.proofs.module_sight.module_seen.Goals as goal

@@ -1,13 +1,13 @@
 use Rattle.std.proofs.Common.{ap, inr, refl}
 use Rattle.std.specs.Prelude.{IfSome}
-use Rattle.world_core.specs.Traces.{IsHandedOn}
+use Rattle.world_core.specs.TraceParts.{IsHandedOn}
 use Rattle.world_os.specs.Behind.{behind}
 use Rattle.world_os.specs.Fences.{FenceForm, form_of, lets_read}
 use Rattle.host_tables.specs.Starts.{job_of}
-use Rattle.awk_run.specs.ModuleRun.{Answers, IsGiven}
-use Rattle.awk_run.specs.ModuleSeen.{IsModuleSeenIn}
+use Rattle.run_modules.specs.ModuleRun.{Answers, IsGiven}
+use Rattle.run_modules.specs.ModuleSeen.{IsModuleSeenIn}
 use Rattle.run_tasks.proofs.Moved.{moved}
-use Rattle.awk_run.proofs.Gave.{none_given}
+use Rattle.run_modules.proofs.Gave.{none_given}
 use Rattle.run_tasks.proofs.Inside.{module_inside}
 use Rattle.run_tasks.proofs.module_sight.module_seen_behind.Goals as goal
 

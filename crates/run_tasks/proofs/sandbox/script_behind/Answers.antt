@@ -1,12 +1,12 @@
 use Rattle.std.proofs.Common.{ap, inr, List, refl, ℕ}
-use Rattle.world_core.specs.Traces.{IsHandedOn}
+use Rattle.world_core.specs.TraceParts.{IsHandedOn}
 use Rattle.world_os.specs.Behind.{behind}
 use Rattle.world_os.specs.Fences.{FenceForm, form_of, lets_read}
-use Rattle.awk_run.specs.ModuleRun.{IsGiven}
+use Rattle.run_modules.specs.ModuleRun.{IsGiven}
 use Rattle.awk_run.specs.ScriptRuns.{ScriptAnswers}
 use Rattle.host_tables.specs.Starts.{job_of}
 use Rattle.run_tasks.proofs.Moved.{at, moved}
-use Rattle.awk_run.proofs.Gave.{none_given}
+use Rattle.run_modules.proofs.Gave.{none_given}
 use Rattle.run_tasks.proofs.Inside.{script_inside}
 use Rattle.run_tasks.proofs.sandbox.script_behind.Goals as goal
 

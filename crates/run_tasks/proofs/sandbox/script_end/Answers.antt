@@ -1,5 +1,5 @@
 use Rattle.std.proofs.Common.{ap, inr, refl}
-use Rattle.run_tasks.specs.Jobs.{files_of_task}
+use Rattle.task_pages.specs.Jobs.{files_of_task}
 use Rattle.run_tasks.proofs.Outlets.{none_out, text_out}
 use Rattle.run_tasks.proofs.Unknown.{any_text}
 use Rattle.run_tasks.proofs.sandbox.script_end.Goals as goal

@@ -1,5 +1,5 @@
 use Rattle.std.proofs.Common.{◌≡◌, ◌∙◌, Some, ap, length, map, subst, sym}
-use Rattle.script_lines.specs.Lines.{form_of}
+use Rattle.script_places.specs.Lines.{form_of}
 use Rattle.script_compiler.specs.Compiled.{IsCompiled}
 use Rattle.script_lines.specs.Lined.{lined, table_of}
 use Rattle.script_lines.proofs.SectionsLemmas.{no_room, of_both, of_err, of_ok, same_compiled}

@@ -1,5 +1,5 @@
 use Rattle.std.proofs.Common.{◌≡◌, ◌++◌, drop, map}
-use Rattle.script_lines.specs.Lines.{form_of}
+use Rattle.script_places.specs.Lines.{form_of}
 use Rattle.script_lines.proofs.compiling.names_of.Given as goal
 
 abbrev pub invariant-loop-function : goal.invariant-loop-function

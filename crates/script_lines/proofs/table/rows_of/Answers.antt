@@ -2,7 +2,7 @@ use Rattle.std.proofs.Common.{◌∙◌, ◌<◌, arith, map, suc}
 use Rattle.std.proofs.lemmas.List.{map_push}
 use Rattle.awk_grammar.specs.ViewStmt.{view_script}
 use Rattle.awk_tokens.specs.Views.{spelled}
-use Rattle.script_lines.specs.Lines.{form_of}
+use Rattle.script_places.specs.Lines.{form_of}
 use Rattle.script_lines.proofs.Tables.{next_row}
 use Rattle.script_lines.proofs.table.rows_of.Goals as goal
 

@@ -1,7 +1,7 @@
 use Rattle.std.proofs.Common.{◌≡◌, ◌-◌, ◌++◌, suc, map}
 use Rattle.awk_grammar.specs.ViewStmt.{view_script}
 use Rattle.awk_tokens.specs.Views.{spelled}
-use Rattle.script_lines.specs.Lines.{form_of}
+use Rattle.script_places.specs.Lines.{form_of}
 use Rattle.script_lines.specs.Lined.{rows_from}
 use Rattle.script_lines.proofs.table.rows_of.Given as goal
 

@@ -2,7 +2,7 @@ use Rattle.std.proofs.Common.{◌≡◌, map, subst}
 use Rattle.awk_grammar.specs.ViewStmt.{view_script}
 use Rattle.awk_parse.specs.Parsing.{IsParsed}
 use Rattle.awk_tokens.specs.Views.{spelled}
-use Rattle.script_lines.specs.Lines.{form_of}
+use Rattle.script_places.specs.Lines.{form_of}
 use Rattle.script_lines.specs.Lined.{table_of}
 use Rattle.script_lines.proofs.SectionsLemmas.{of_ok}
 use Rattle.script_lines.proofs.table.table_of.Goals as goal

@@ -2,7 +2,8 @@ use Rattle.std.proofs.Common.{◌≡◌, ◌∙◌, List, Option, Some, ℕ, map
 use Rattle.std.proofs.lemmas.Simd.{map-map}
 use Rattle.wasm_types.specs.declared.module.Import.{Import}
 use Rattle.wasm_types.specs.View.{view_import, view_module}
-use Rattle.wasm_model.specs.Links.{NumberRefused, first_none, main_of, number_for, numbers_for}
+use Rattle.wasm_model.specs.Links.{first_none, main_of, number_for, numbers_for}
+use Rattle.wasm_model.specs.LinkAnswers.{NumberRefused}
 use Rattle.wasm_model.proofs.Beginning.{none_missing, refused_by}
 use Rattle.wasm_machine.proofs.link.link.Goals as goal
 

@@ -1,6 +1,6 @@
 use Rattle.std.proofs.Common.{rules, ◌≡◌, ◌≢◌, ◌∙◌, ap, subst}
 use Rattle.wasm_model.specs.Machines.{ProgramForm}
-use Rattle.wasm_model.specs.Runs.{Did, lasting}
+use Rattle.wasm_model.specs.MachineRuns.{Did, lasting}
 use Rattle.wasm_model.specs.declared.ends.MachineEnd.{MachineEnd}
 use Rattle.wasm_model.specs.declared.ends.MachineEnd.TheVariants as told
 use Rattle.wasm_model.proofs.Chains.{did_less, did_on}

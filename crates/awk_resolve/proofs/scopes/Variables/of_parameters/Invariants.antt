@@ -1,5 +1,6 @@
 use Rattle.std.proofs.Common.{◌≡◌, false, drop}
-use Rattle.awk_grammar.specs.Kinds.{distinct_parameters, parameter_keys, with_keys}
+use Rattle.awk_grammar.specs.Kinds.{parameter_keys, with_keys}
+use Rattle.awk_resolve.specs.ViewVariables.{distinct_parameters}
 use Rattle.awk_resolve.specs.ViewNames.{view_heads, view_variables}
 use Rattle.awk_resolve.proofs.scopes.Variables.of_parameters.Given as goal
 

@@ -1,5 +1,5 @@
 use Rattle.std.proofs.Common.{◌≡◌, ◌++◌, [], drop}
-use Rattle.awk_grammar.specs.Lexeme.{lexemes}
+use Rattle.awk_tree.specs.Lexemes.{lexemes}
 use Rattle.awk_grammar.specs.ViewStmt.{view_items}
 use Rattle.awk_tree.specs.Lines.{places_where}
 use Rattle.awk_tree.specs.Parts.{is_in}

@@ -1,6 +1,6 @@
 use Rattle.std.proofs.Common.{◌≡◌, [], drop}
 use Rattle.std.specs.Prelude.{slice_get}
-use Rattle.awk_grammar.specs.Lexeme.{lexemes}
+use Rattle.awk_tree.specs.Lexemes.{lexemes}
 use Rattle.awk_grammar.specs.ViewStmt.{view_items}
 use Rattle.awk_tree.specs.Lines.{functions_places}
 use Rattle.awk_tree.proofs.lines.items.function_places.Given as goal

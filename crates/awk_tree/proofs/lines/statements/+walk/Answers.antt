@@ -1,7 +1,7 @@
 use Rattle.std.proofs.Common.{◌++◌, ap, ◌∙◌}
 use Rattle.std.proofs.lemmas.Result.{on_ok_weaker}
 use Rattle.awk_grammar.specs.Stmt.{print_stmt}
-use Rattle.awk_grammar.specs.Lexeme.{lexemes}
+use Rattle.awk_tree.specs.Lexemes.{lexemes}
 use Rattle.awk_grammar.proofs.Views.{block_is}
 use Rattle.awk_tree.specs.Lines.{stmt_places}
 use Rattle.awk_tree.proofs.lines.statements.+walk.Goals as goal

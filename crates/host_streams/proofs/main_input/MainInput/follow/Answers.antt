@@ -1,6 +1,7 @@
 use Rattle.std.proofs.Common.{◌∙◌, ℕ, Bool, List, [], Some, None, ap, refl, sym}
 use Rattle.world_core.specs.WorldState.{Source}
-use Rattle.sem_primitives.specs.InputMeaning.{follows, main_input, to_come}
+use Rattle.sem_primitives.specs.MainInput.{follows, main_input}
+use Rattle.sem_primitives.specs.InputParts.{to_come}
 use Rattle.sem_primitives.specs.SharedState.{MainInput, NoneLeft, Standard}
 use Rattle.host_streams.specs.MainFinds.{found_in, main_finding}
 use Rattle.host_streams.specs.Mains.{begun, operands_of, with_main}

@@ -1,5 +1,6 @@
 use Rattle.std.proofs.Common.{◌≡◌, ◌≢◌, ◌∙◌, ◌+◌, ℕ, List, false, Ok, ap, arith, inl, refl, subst, sym}
-use Rattle.sem_primitives.specs.InputMeaning.{main_input, reader_of}
+use Rattle.sem_primitives.specs.MainInput.{main_input}
+use Rattle.sem_primitives.specs.InputParts.{reader_of}
 use Rattle.host_streams.specs.MainFinds.{entry_of_reading, reading_found}
 use Rattle.host_streams.specs.Mains.{FileIsOpen, HoldsMain, IsFresh, OperandCounts, SparesKinds, SparesPlaces, StandardIs, main_in, main_phase, phase_at, phase_by, reading_of}
 use Rattle.host_streams.specs.MainMoves.{MovesMain}

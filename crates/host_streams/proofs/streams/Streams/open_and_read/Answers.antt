@@ -2,7 +2,7 @@ use Rattle.std.proofs.Common.{◌≡◌, ◌∙◌, ℕ, List, [], Bool, true, f
 use Rattle.awk_values.specs.declared.fault.Stop.{Stop}
 use Rattle.awk_values.specs.declared.fault.Stop.TheVariants.{Fault as IsFault, NoMemory}
 use Rattle.world_core.specs.WorldState.{Named, Source, State}
-use Rattle.sem_primitives.specs.InputMeaning.{source_of}
+use Rattle.sem_primitives.specs.InputParts.{source_of}
 use Rattle.host_streams.specs.OpenFiles.{IsAdded, OpenCounts, OpensFile, OpensReader, ReadersAfter, ReadsFile, StartsFile, StartsReader, has_room, kept_named, phase_named, reader_handle, readers_in}
 use Rattle.host_streams.specs.Readers.{HandsOver, NextCounts, NextPhase, OnlyLimit}
 use Rattle.host_streams.specs.declared.reader.FileNext.{FileNext}

@@ -13,7 +13,7 @@ use Rattle.host_streams.proofs.Outputs.{kind_stays, other_number, was_kind}
 use Rattle.world_core.specs.Calls.{IsShut, OpensToRead, next_count}
 use Rattle.world_core.specs.WorldState.{Entry, Named, State}
 use Rattle.world_core.specs.declared.world.WorldFault.{WorldFault}
-use Rattle.sem_primitives.specs.InputMeaning.{source_if, source_of}
+use Rattle.sem_primitives.specs.InputParts.{source_if, source_of}
 use Rattle.host_streams.specs.OpenFiles.{WritersGo}
 use Rattle.host_streams.proofs.Refused.{is_stop}
 use Rattle.host_streams.proofs.Given.{none_one, none_still}

@@ -1,0 +1,4 @@
+pub mod Operations
+pub mod Rules
+pub mod Items
+pub mod Runs

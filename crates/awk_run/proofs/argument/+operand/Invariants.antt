@@ -1,4 +1,0 @@
-use Rattle.awk_run.proofs.argument.+operand.Given as goal
-
-abbrev pub decreases-operand : goal.decreases-operand
-decreases-operand g l = l.nested

@@ -1,8 +1,0 @@
-use Rattle.std.proofs.Common.{◌≡◌}
-use Rattle.std.specs.Prelude.{IfSome}
-use Rattle.host_calls.specs.Runs.{sight}
-use Rattle.awk_run.specs.Seen.{IsAbout}
-use Rattle.awk_run.proofs.argument.first_of.Given as goal
-
-abbrev pub invariant-loop : goal.invariant-loop
-invariant-loop g l = (sight g.W.World.state l.host ≡ sight g.W.World.state l.fn.host) × IfSome l.found (IsAbout l.fault)

@@ -1,7 +1,0 @@
-use Rattle.std.proofs.Common.{map, take, vec_items}
-use Rattle.host_texts.specs.NameForms.{pair_of}
-use Rattle.awkwasm.specs.Environment.{ArePairsIn}
-use Rattle.awkwasm.proofs.environment.pairs_in.Given as goal
-
-abbrev pub invariant-loop-entry : goal.invariant-loop-entry
-invariant-loop-entry l = ArePairsIn (map vec_items (take l.entry-index l.entries)) (map pair_of l.pairs.items)

@@ -1,0 +1,13 @@
+pub mod Gave
+pub mod Runs
+pub mod Pausing
+pub mod SteppedRuns
+pub mod StandingPlaces
+pub mod SpotTokens
+pub mod SpotLines
+pub mod SpotCounts
+pub mod AtStatements
+pub mod Executing
+pub mod Settling
+pub mod PassedPlaces
+pub mod LineSites

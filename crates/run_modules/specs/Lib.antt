@@ -1,0 +1,9 @@
+pub mod ModuleRun
+pub mod ModuleRunParts
+pub mod FaultStep
+pub mod Seen
+pub mod Counted
+pub mod SpotPlaces
+pub mod Tallied
+pub mod Executions
+pub mod ModuleSeen

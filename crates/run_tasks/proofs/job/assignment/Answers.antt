@@ -1,7 +1,0 @@
-use Rattle.std.proofs.Common.{arith}
-use Rattle.run_tasks.specs.Jobs.{is_equals}
-use Rattle.run_tasks.proofs.Equals.{none_passes}
-use Rattle.run_tasks.proofs.job.assignment.Goals as goal
-
-pub returns-in-None : goal.returns-in-None
-returns-in-None c = rw (none_passes is_equals c.args.word.now (c.in-None.ensures.byte (omega arith) (λ w o h. h)))

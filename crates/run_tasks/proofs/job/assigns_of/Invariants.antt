@@ -1,8 +1,0 @@
-use Rattle.std.proofs.Common.{◌≡◌, ◌++◌, drop, map}
-use Rattle.run_tasks.specs.Jobs.{assignment}
-use Rattle.run_tasks.proofs.job.assigns_of.Given as goal
-use Rattle.command_line.specs.Request.{texts}
-use Rattle.host_texts.specs.NameForms.{pair_of}
-
-abbrev pub invariant-loop-word : goal.invariant-loop-word
-invariant-loop-word l = map pair_of l.pairs.items ++ map assignment (texts (drop l.word-index l.words)) ≡ map assignment (texts l.words)

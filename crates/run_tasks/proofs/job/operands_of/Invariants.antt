@@ -1,6 +1,0 @@
-use Rattle.std.proofs.Common.{◌≡◌, ◌++◌, drop}
-use Rattle.command_line.specs.Request.{texts}
-use Rattle.run_tasks.proofs.job.operands_of.Given as goal
-
-abbrev pub invariant-loop-word : goal.invariant-loop-word
-invariant-loop-word l = l.operands.items ++ texts (drop l.word-index l.words) ≡ texts l.words

@@ -1,0 +1,14 @@
+pub mod Calls
+pub mod Powers
+pub mod ImportExamples
+pub mod Jobs
+pub mod JobExamples
+pub mod Tasks
+pub mod UnlinedTexts
+pub mod Environment
+pub mod Explained
+pub mod Outcomes
+pub mod Printed
+pub mod Checked
+pub mod ToldLines
+pub mod Examples

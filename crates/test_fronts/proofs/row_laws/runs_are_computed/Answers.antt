@@ -1,5 +1,0 @@
-use Rattle.test_fronts.proofs.Reading.{run_is, run_means}
-use Rattle.test_fronts.proofs.row_laws.runs_are_computed.Goals as goal
-
-pub returns : goal.returns
-returns c = λ bytes setting turns ending. (run_means bytes setting turns ending, run_is bytes setting turns ending)

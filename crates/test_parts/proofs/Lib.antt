@@ -1,0 +1,2 @@
+mod Again
+mod ReadScripts
