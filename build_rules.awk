@@ -2,7 +2,7 @@
 #     awk -f build_rules.awk -v kit=KIT -v lanes=N docs/GATE.md crates.txt
 # KIT is the folder of the Rattle kit, N how many proofs there are at a time. make runs at the top of the sources. In crates/awkwasm/out/proved there is NAME.rlib
 # of each crate that is proved, and in NAME.log what the prover said. Of what can be proved next make begins with what has the longest chain of others after it,
-# by the seconds that docs/GATE.md has of the first build.
+# by the seconds that docs/GATE.md has of the first build. Towards its end few proofs can be made at a time, so each may use all processors.
 
 FILENAME ~ /GATE.md$/ {
   count = split($0, cell, / *[|] */)
@@ -32,6 +32,7 @@ function measure(list, count, name, i, k) {
   for (k = crates; k; k--) {
     name = order[k]
     chain[name] += seconds[name]
+    if (longest < chain[name]) longest = chain[name]
     count = split(libraries[name], list, " ")
     for (i = 1; i <= count; i++) if (list[i] in libraries && chain[list[i]] < chain[name]) chain[list[i]] = chain[name]
   }
@@ -46,7 +47,7 @@ function sort(i, k, held) {
   }
 }
 
-# Prints how a crate is proved, by a command in its folder. The program's own proof comes last and alone, so it may use all processors.
+# Prints how a crate is proved, by a command in its folder.
 function rule(name, list, count, i, made, needs, words) {
   made = name == "awkwasm" ? "awkwasm.o" : name ".rlib/format"
   words = "--crate-name " name " src/" (name == "awkwasm" ? "main" : "lib") ".rt --extern std=" kit "/rlibs/std.rlib"
@@ -57,8 +58,9 @@ function rule(name, list, count, i, made, needs, words) {
   }
   words = words " -L dependency=" kit "/rlibs -L dependency=" beside " --links " name "="
   words = words " --antt-project " kit "/rattle/logic/antt-project.json --logic-built " kit "/logic_built"
-  if (name == "awkwasm") words = words " --jobs " lanes " --backend llvm --toolchain " kit "/toolchain -o " beside "/awkwasm.o"
-  else words = words " --jobs 1 --statements -o " beside "/" name ".rlib"
+  words = words " --jobs " (8 * chain[name] <= 3 * longest ? lanes : 1)
+  if (name == "awkwasm") words = words " --backend llvm --toolchain " kit "/toolchain -o " beside "/awkwasm.o"
+  else words = words " --statements -o " beside "/" name ".rlib"
   printf "%s/%s: %s/kit crates.txt $(shell find crates/%s/src crates/%s/specs crates/%s/proofs 2>/dev/null)%s\n", proved, made, proved, name, name, name, needs
   printf "\t@cd crates/%s && %s/bin/rattle build %s >%s/%s.log 2>&1 || { echo failed %s; exit 1; }\n", name, kit, words, beside, name, name
   printf "\t@echo proved %s %d\n", name, seconds[name]

@@ -68,9 +68,9 @@ pub fn nothing_kept()
 pub fn little_is_alive()
     ensures values { (p : Program) (c : Conf) (s : HostState) → (here : AtStatement p c s)
         → live_values s ≤ scalars (kinds_of p.globals)
-        + (boxed here.function.kinds + values_waiting p here.waiting c.callers here.waits) }
+        + (boxed here.at.function.kinds + values_waiting p here.held.waiting c.callers here.called_by.waits) }
     ensures arrays { (p : Program) (c : Conf) (s : HostState) → (here : AtStatement p c s)
-        → live_arrays s ≡ 2 + (array_kinds (kinds_of p.globals) + count_waiting sort.Array here.waiting) }
+        → live_arrays s ≡ 2 + (array_kinds (kinds_of p.globals) + count_waiting sort.Array here.held.waiting) }
     ensures iterators { (p : Program) (c : Conf) (s : HostState) → AtStatement p c s
         → live_iterators s ≡ walks (numbers_of p) c.frame.labels + walks_waiting (numbers_of p) c.callers }
     ensures places { (os : List (Option Sort)) (ws : List Word) → EachPlace os ws → length os ≡ length ws }

@@ -1,13 +1,15 @@
 -- Worked scripts: what the longest cutting gives, computed.
-use Rattle.std.proofs.Common.{◌≡◌, Ok, Err, [], ◌∷◌, codes, refl}
+use Rattle.std.proofs.Common.{◌≡◌, true, false, Some, Ok, Err, [], ◌∷◌, codes, refl}
 use Rattle.awk_tokens.specs.declared.reserved_words.Keyword.TheVariants as words
 use Rattle.awk_tokens.specs.declared.reserved_words.Builtin.TheVariants as functions
 use Rattle.awk_tokens.specs.declared.token.Punctuator.TheVariants as marks
 use Rattle.awk_tokens.specs.declared.token.TokenKind.TheVariants.{Name, FuncName, Number, Str, Ere, Keyword, Builtin, Punctuator}
 use Rattle.awk_tokens.specs.declared.token.TokenFault.TheVariants.{BadByte, OpenString, OpenEre}
+use Rattle.awk_tokens.specs.declared.token.Role.TheVariants.{Control, Params, Plain}
 use Rattle.awk_tokens.specs.Words.{keywords, builtins, left_out_words}
 use Rattle.awk_tokens.specs.Pieces.{punctuators}
-use Rattle.awk_tokens.specs.Cutting.{IsTokens}
+use Rattle.awk_tokens.specs.Cutting.{IsTokens, divides, drops}
+use Rattle.awk_tokens.specs.Kinds.{context}
 use Rattle.awk_tokens.specs.Reading.{scale_at, exponent_length, fraction_length, number_at, close_at, mark_at, joined_at, name_at, front_at, cut_at, raw_of}
 use Rattle.awk_tokens.proofs.Whole.{read_is_tokens}
 
@@ -65,3 +67,27 @@ a_continued_line_and_a_name_before = read_is_tokens (codes "f\\\n(1) f(1)")
 a_string_over_a_continued_line : IsTokens (codes "print \"a\\\nb\"\n@") (Err (BadByte 3))
 unfolding raw_of cut_at front_at joined_at mark_at name_at number_at fraction_length exponent_length scale_at close_at keywords builtins left_out_words punctuators
 a_string_over_a_continued_line = read_is_tokens (codes "print \"a\\\nb\"\n@")
+
+-- parentheses in that of `if`: a slash after an inner one divides, and one after the outer one begins an ERE
+parentheses_in_that_of_if : IsTokens (codes "if ((a)/b) /x/") (Ok (record { kind = Keyword words.If; line = 1; text = codes "if" } ∷ record { kind = Punctuator marks.OpenParen; line = 1; text = codes "(" } ∷ record { kind = Punctuator marks.OpenParen; line = 1; text = codes "(" } ∷ record { kind = Name; line = 1; text = codes "a" } ∷ record { kind = Punctuator marks.CloseParen; line = 1; text = codes ")" } ∷ record { kind = Punctuator marks.Slash; line = 1; text = codes "/" } ∷ record { kind = Name; line = 1; text = codes "b" } ∷ record { kind = Punctuator marks.CloseParen; line = 1; text = codes ")" } ∷ record { kind = Ere; line = 1; text = codes "/x/" } ∷ record { kind = Punctuator marks.Semicolon; line = 1; text = [] } ∷ []))
+unfolding raw_of cut_at front_at joined_at mark_at name_at number_at fraction_length exponent_length scale_at close_at keywords builtins left_out_words punctuators
+parentheses_in_that_of_if = read_is_tokens (codes "if ((a)/b) /x/")
+
+-- the context after `if ( (`, `if ( ( )`, `if ( ( ) )` and `function f ( )`, the newest kind first
+two_open : (context (Punctuator marks.OpenParen ∷ Punctuator marks.OpenParen ∷ Keyword words.If ∷ [])).open_roles ≡ Plain ∷ Control ∷ []
+two_open = refl
+
+inner_closed : divides (context (Punctuator marks.CloseParen ∷ Punctuator marks.OpenParen ∷ Punctuator marks.OpenParen ∷ Keyword words.If ∷ [])) ≡ true
+inner_closed = refl
+
+outer_closed : context (Punctuator marks.CloseParen ∷ Punctuator marks.CloseParen ∷ Punctuator marks.OpenParen ∷ Punctuator marks.OpenParen ∷ Keyword words.If ∷ []) ≡ record { last = Some (Punctuator marks.CloseParen); former = Some (Punctuator marks.CloseParen); closed = Control; open_roles = [] }
+outer_closed = refl
+
+outer_closed_divides : divides (context (Punctuator marks.CloseParen ∷ Punctuator marks.CloseParen ∷ Punctuator marks.OpenParen ∷ Punctuator marks.OpenParen ∷ Keyword words.If ∷ [])) ≡ false
+outer_closed_divides = refl
+
+parameters_closed : (context (Punctuator marks.CloseParen ∷ Punctuator marks.OpenParen ∷ FuncName ∷ Keyword words.Function ∷ [])).closed ≡ Params
+parameters_closed = refl
+
+parameters_drop : drops (context (Punctuator marks.CloseParen ∷ Punctuator marks.OpenParen ∷ FuncName ∷ Keyword words.Function ∷ [])) ≡ true
+parameters_drop = refl

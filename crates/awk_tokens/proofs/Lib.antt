@@ -2,8 +2,10 @@ pub mod Maximal
 pub mod LongestNumber
 pub mod Unique
 pub mod Longest
+pub mod Rules
 pub mod Whole
 pub mod Fronts
+pub mod Contexts
 pub mod States
 pub mod Steps
 pub mod Examples

@@ -1,47 +1,39 @@
--- What is kept tells what the kinds before say.
-use Rattle.std.proofs.Common.{◌≡◌, ℕ, zero, suc, List, [], ◌∷◌, ◌++◌, length, reverse, refl, sym, ap, ◌∙◌, arith}
+-- What the fields of the code's state say.
+use Rattle.std.proofs.Common.{◌≡◌, Option, Some, List, [], ◌∷◌, ◌++◌, length, drop, reverse, refl, sym, ap, ◌∙◌, arith, get_or}
 use Rattle.std.proofs.lemmas.List.{reverse-append}
 use Rattle.awk_tokens.specs.declared.token.TokenKind.{TokenKind}
-use Rattle.awk_tokens.specs.declared.token.Punctuator.TheVariants.{OpenParen, CloseParen}
+use Rattle.awk_tokens.specs.declared.token.Punctuator.TheVariants.{CloseParen}
 use Rattle.awk_tokens.specs.declared.token.TokenKind.TheVariants.{Punctuator}
 use Rattle.awk_tokens.specs.declared.token.Role.{Role}
 use Rattle.awk_tokens.specs.declared.token.Role.TheVariants.{Plain}
-use Rattle.awk_tokens.specs.Cutting.{opened}
-use Rattle.awk_tokens.specs.State.{rest_of, stack, closed_role}
+use Rattle.awk_tokens.specs.Cutting.{Context, after}
 
-abbrev pub role_at : ℕ → List Role → Role
-role_at n [] = Plain
-role_at zero (r ∷ _) = r
-role_at (suc n) (_ ∷ rs) = role_at n rs
+abbrev context_with : Option TokenKind → Option TokenKind → Role → List Role → Context
+context_with last former closed roles = record { last = last; former = former; closed = closed; open_roles = roles }
 
-role_rest : (n : ℕ) (rs : List Role) → role_at (suc n) rs ≡ role_at n (rest_of rs)
-role_rest zero [] = refl
-role_rest (suc n) [] = refl
-role_rest n (r ∷ rs) = refl
+pub same_context : (a b : Context) → a.last ≡ b.last → a.former ≡ b.former → a.closed ≡ b.closed → a.open_roles ≡ b.open_roles → a ≡ b
+same_context a b e f g h =
+    ap (λ (x : Option TokenKind). context_with x a.former a.closed a.open_roles) e
+    ∙ ap (λ (x : Option TokenKind). context_with b.last x a.closed a.open_roles) f
+    ∙ ap (λ (x : Role). context_with b.last b.former x a.open_roles) g
+    ∙ ap (λ (x : List Role). context_with b.last b.former b.closed x) h
 
-pub opened_is : (n : ℕ) (ks : List TokenKind) → opened n ks ≡ role_at n (stack ks)
-opened_is zero [] = refl
-opened_is (suc n) [] = refl
-opened_is n (Punctuator CloseParen ∷ ks) = opened_is (suc n) ks ∙ role_rest n (stack ks)
-opened_is zero (Punctuator OpenParen ∷ ks) = refl
-opened_is (suc n) (Punctuator OpenParen ∷ ks) = opened_is n ks
-opened_is n (_ ∷ ks) = opened_is n ks
-
-stack_popped : (old new : List Role) (r : Role) (rs : List Role) → old ≡ new ++ r ∷ [] → reverse old ≡ rs → rs ≡ r ∷ reverse new
-stack_popped old new r rs e h = sym h ∙ ap reverse e ∙ reverse-append new (r ∷ [])
-
-pub popped_role : (k : TokenKind) (old new : List Role) (r : Role) (ks : List TokenKind) → k ≡ Punctuator CloseParen → old ≡ new ++ r ∷ [] → reverse old ≡ stack ks → r ≡ closed_role (k ∷ ks)
-popped_role k old new r ks c e h = sym (ap (λ (x : TokenKind). closed_role (x ∷ ks)) c ∙ opened_is 0 ks ∙ ap (role_at 0) (stack_popped old new r (stack ks) e h))
-
-pub popped_rest : (k : TokenKind) (old new : List Role) (r : Role) (ks : List TokenKind) → k ≡ Punctuator CloseParen → old ≡ new ++ r ∷ [] → reverse old ≡ stack ks → reverse new ≡ stack (k ∷ ks)
-popped_rest k old new r ks c e h = sym (ap (λ (x : TokenKind). stack (x ∷ ks)) c ∙ ap rest_of (stack_popped old new r (stack ks) e h))
+-- `)` that closes a parenthesis
+pub closing : (k : TokenKind) (c : Context) (old new : List Role) (r : Role) → k ≡ Punctuator CloseParen → old ≡ new ++ r ∷ [] → reverse old ≡ c.open_roles →
+    context_with (Some k) c.last r (reverse new) ≡ after c k
+closing k c old new r is e h =
+    let roles : r ∷ reverse new ≡ c.open_roles = sym (ap reverse e ∙ reverse-append new (r ∷ [])) ∙ h in
+    same_context (context_with (Some k) c.last r (reverse new)) (after c (Punctuator CloseParen)) (ap (λ (x : TokenKind). Some x) is) refl
+    (ap (λ (x : List Role). get_or x 0 Plain) roles) (ap (drop 1) roles) ∙ ap (after c) (sym is)
 
 no_length : (xs : List Role) → length xs ≡ 0 → xs ≡ []
 no_length [] h = refl
 no_length (x ∷ xs) h = absurd (omega arith)
 
-pub none_role : (k : TokenKind) (old : List Role) (ks : List TokenKind) → k ≡ Punctuator CloseParen → length old ≡ 0 → reverse old ≡ stack ks → Plain ≡ closed_role (k ∷ ks)
-none_role k old ks c e h = sym (ap (λ (x : TokenKind). closed_role (x ∷ ks)) c ∙ opened_is 0 ks ∙ ap (role_at 0) (sym h ∙ ap reverse (no_length old e)))
-
-pub none_rest : (k : TokenKind) (old new : List Role) (ks : List TokenKind) → k ≡ Punctuator CloseParen → length old ≡ 0 → length new ≡ 0 → reverse old ≡ stack ks → reverse new ≡ stack (k ∷ ks)
-none_rest k old new ks c e f h = ap reverse (no_length new f) ∙ sym (ap (λ (x : TokenKind). stack (x ∷ ks)) c ∙ ap rest_of (sym h ∙ ap reverse (no_length old e)))
+-- `)` where no parenthesis is open
+pub closing_none : (k : TokenKind) (c : Context) (old new : List Role) → k ≡ Punctuator CloseParen → length old ≡ 0 → length new ≡ 0 → reverse old ≡ c.open_roles →
+    context_with (Some k) c.last Plain (reverse new) ≡ after c k
+closing_none k c old new is e f h =
+    let none : [] ≡ c.open_roles = sym (ap reverse (no_length old e)) ∙ h in
+    same_context (context_with (Some k) c.last Plain (reverse new)) (after c (Punctuator CloseParen)) (ap (λ (x : TokenKind). Some x) is) refl
+    (ap (λ (x : List Role). get_or x 0 Plain) none) (ap reverse (no_length new f) ∙ ap (drop 1) none) ∙ ap (after c) (sym is)

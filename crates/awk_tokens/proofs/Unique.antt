@@ -3,10 +3,9 @@ use Rattle.std.proofs.Common.{◌≡◌, ℕ, ◌<◌, ◌≤◌, Bool, true, fa
 use Rattle.std.specs.Prelude.{is_some}
 use Rattle.std.proofs.Math.Seq.{take-append_seam, drop-append_seam}
 use Rattle.std.proofs.lemmas.Bool.{cases_lt}
-use Rattle.awk_tokens.specs.declared.token.TokenKind.{TokenKind}
 use Rattle.awk_tokens.specs.Pieces.{piece_of}
 use Rattle.awk_tokens.proofs.Maximal.{false-true}
-use Rattle.awk_tokens.specs.Cutting.{divides, kinds_after, IsLongest, IsStop, joined, IsCutting}
+use Rattle.awk_tokens.specs.Cutting.{Context, divides, after_text, IsLongest, IsStop, joined, IsCutting}
 
 -- a piece that is longer than one that can be no longer
 longer : (d : Bool) (t u r s : List ℕ) → t ++ r ≡ u ++ s → length t < length u → IsLongest d t r → is_some (piece_of d u) ≡ true → ⊥
@@ -37,14 +36,14 @@ no_piece d t r rest e stop p =
     let clash : false ≡ true = ap is_some (sym none) ∙ p in
     false-true clash
 
--- two cuttings of the same bytes after the same kinds are one
-pub one_cutting : (before : List TokenKind) (ts us : List (List ℕ)) (r s : List ℕ) → joined ts ++ r ≡ joined us ++ s → IsCutting before ts r → IsCutting before us s → (ts ≡ us) × (r ≡ s)
+-- two cuttings of the same bytes in the same context are one
+pub one_cutting : (before : Context) (ts us : List (List ℕ)) (r s : List ℕ) → joined ts ++ r ≡ joined us ++ s → IsCutting before ts r → IsCutting before us s → (ts ≡ us) × (r ≡ s)
 one_cutting before [] [] r s e a b = (refl, e)
 one_cutting before [] (u ∷ us) r s e a b = absurd (no_piece (divides before) u (joined us ++ s) r (e ∙ append_assoc u (joined us) s) a b.0.piece)
 one_cutting before (t ∷ ts) [] r s e a b = absurd (no_piece (divides before) t (joined ts ++ r) s (sym e ∙ append_assoc t (joined ts) r) b a.0.piece)
 one_cutting before (t ∷ ts) (u ∷ us) r s e a b =
     let whole : t ++ (joined ts ++ r) ≡ u ++ (joined us ++ s) = sym (append_assoc t (joined ts) r) ∙ e ∙ append_assoc u (joined us) s in
     let one = one_front (divides before) t u (joined ts ++ r) (joined us ++ s) whole a.0 b.0 in
-    let here : kinds_after before u (joined us ++ s) ≡ kinds_after before t (joined ts ++ r) = ap (λ (p : List ℕ × List ℕ). kinds_after before p.0 p.1) (ap (λ (x : List ℕ). (x, joined us ++ s)) (sym one.0) ∙ ap (λ (x : List ℕ). (t, x)) (sym one.1)) in
-    let rest = one_cutting (kinds_after before t (joined ts ++ r)) ts us r s one.1 a.1 (subst (λ (ks : List TokenKind). IsCutting ks us s) here b.1) in
+    let here : after_text before u (joined us ++ s) ≡ after_text before t (joined ts ++ r) = ap (λ (p : List ℕ × List ℕ). after_text before p.0 p.1) (ap (λ (x : List ℕ). (x, joined us ++ s)) (sym one.0) ∙ ap (λ (x : List ℕ). (t, x)) (sym one.1)) in
+    let rest = one_cutting (after_text before t (joined ts ++ r)) ts us r s one.1 a.1 (subst (λ (x : Context). IsCutting x us s) here b.1) in
     (ap (λ (x : List ℕ). x ∷ ts) one.0 ∙ ap (λ (xs : List (List ℕ)). u ∷ xs) rest.0, rest.1)

@@ -1,5 +1,5 @@
 -- Cuttings of a script into pieces, and the tokens of a cutting.
-use Rattle.std.specs.Prelude.{◌≡◌, ℕ, zero, suc, ◌+◌, ◌<◌, ◌≤◌, Bool, true, false, ◌&&◌, ◌||◌, ◌==◌, not, if◌then◌else◌, Option, Some, None, is_some, Result, Ok, Err, List, [], ◌∷◌, ◌++◌, length, take}
+use Rattle.std.specs.Prelude.{◌≡◌, ℕ, ◌+◌, ◌<◌, ◌≤◌, Bool, true, false, ◌&&◌, ◌==◌, not, if◌then◌else◌, Option, Some, None, is_some, Result, Ok, Err, List, [], ◌∷◌, ◌++◌, length, take, drop, get_or}
 use Rattle.std.specs.List.{count_by}
 use Rattle.awk_text.specs.Bytes.{newline, quote, open_paren, slash}
 use Rattle.awk_tokens.specs.Pieces.{piece_of}
@@ -21,144 +21,128 @@ pub record Spelled : Type 0 where
   pub line : ℕ
   pub text : List ℕ
 
--- ---- parentheses
+-- ---- what the tokens before a place say
 
--- From here on `before` and `ks` are the kinds of the kept tokens before a place, the newest first.
+pub record Context : Type 0 where
+  -- the kinds of the last token and of the one before it
+  pub last : Option TokenKind
+  pub former : Option TokenKind
+  -- what the parenthesis that a last `)` closes was opened for; `Plain` if there is none
+  pub closed : Role
+  -- what the open parentheses were opened for, the newest first
+  pub open_roles : List Role
 
--- what a parenthesis that stands after these kinds is opened for
-abbrev pub role_of : List TokenKind → Role
-role_of (Keyword If ∷ _) = Control
-role_of (Keyword While ∷ _) = Control
-role_of (Keyword For ∷ _) = Control
-role_of (Name ∷ Keyword Function ∷ _) = Params
-role_of (FuncName ∷ Keyword Function ∷ _) = Params
-role_of _ = Plain
+abbrev pub start : Context
+start = record { last = None; former = None; closed = Plain; open_roles = [] }
 
--- the role of the parenthesis that a `)` after these kinds closes, with n more to be closed before it
-abbrev pub opened : ℕ → List TokenKind → Role
-opened n [] = Plain
-opened n (Punctuator CloseParen ∷ ks) = opened (suc n) ks
-opened zero (Punctuator OpenParen ∷ ks) = role_of ks
-opened (suc n) (Punctuator OpenParen ∷ ks) = opened n ks
-opened n (_ ∷ ks) = opened n ks
+-- Table: what a `(` opens, by the last kind and the one before it: a control parenthesis (of `if`, `while` and `for`), the
+-- parameters of a function, or any other.
+abbrev pub opens_after : Option TokenKind → Option TokenKind → Role
+opens_after (Some (Keyword If)) _ = Control
+opens_after (Some (Keyword While)) _ = Control
+opens_after (Some (Keyword For)) _ = Control
+opens_after (Some Name) (Some (Keyword Function)) = Params
+opens_after (Some FuncName) (Some (Keyword Function)) = Params
+opens_after _ _ = Plain
 
-abbrev pub is_control : Role → Bool
-is_control Control = true
-is_control _ = false
+-- one more token: `(` opens a parenthesis, `)` closes the newest
+abbrev pub after : Context → TokenKind → Context
+after c (Punctuator OpenParen) = record { last = Some (Punctuator OpenParen); former = c.last; closed = Plain; open_roles = opens_after c.last c.former ∷ c.open_roles }
+after c (Punctuator CloseParen) = record { last = Some (Punctuator CloseParen); former = c.last; closed = get_or c.open_roles 0 Plain; open_roles = drop 1 c.open_roles }
+after c kind = record { last = Some kind; former = c.last; closed = Plain; open_roles = c.open_roles }
 
-abbrev pub is_plain : Role → Bool
-is_plain Plain = true
-is_plain _ = false
+-- Table: whether a slash divides, by the last kind and what a last `)` closed. Where it does not, it begins an ERE.
+abbrev pub divides_after : Option TokenKind → Role → Bool
+divides_after (Some Number) _ = true
+divides_after (Some Str) _ = true
+divides_after (Some Ere) _ = true
+divides_after (Some Name) _ = true
+divides_after (Some (Builtin Length)) _ = true
+divides_after (Some (Keyword Getline)) _ = true
+divides_after (Some (Punctuator CloseBracket)) _ = true
+divides_after (Some (Punctuator Increment)) _ = true
+divides_after (Some (Punctuator Decrement)) _ = true
+divides_after (Some (Punctuator CloseParen)) Params = true
+divides_after (Some (Punctuator CloseParen)) Plain = true
+divides_after _ _ = false
 
--- ---- slashes
+-- Table for rule 1 below: whether a newline is dropped, by the last kind and what a last `)` closed.
+abbrev pub drops_after : Option TokenKind → Role → Bool
+drops_after None _ = true
+drops_after (Some (Punctuator Semicolon)) _ = true
+drops_after (Some (Punctuator OpenBrace)) _ = true
+drops_after (Some (Punctuator CloseBrace)) _ = true
+drops_after (Some (Punctuator And)) _ = true
+drops_after (Some (Punctuator Or)) _ = true
+drops_after (Some (Punctuator Comma)) _ = true
+drops_after (Some (Keyword Do)) _ = true
+drops_after (Some (Keyword Else)) _ = true
+drops_after (Some (Punctuator CloseParen)) Control = true
+drops_after (Some (Punctuator CloseParen)) Params = true
+drops_after _ _ = false
 
--- A slash divides after a number, string, ERE, name, `length`, `getline`, `]`, `++` and `--`, and after a `)` that does
--- not close a control parenthesis. Everywhere else it begins an ERE.
-abbrev pub divides : List TokenKind → Bool
-divides (Number ∷ _) = true
-divides (Str ∷ _) = true
-divides (Ere ∷ _) = true
-divides (Name ∷ _) = true
-divides (Builtin Length ∷ _) = true
-divides (Keyword Getline ∷ _) = true
-divides (Punctuator CloseBracket ∷ _) = true
-divides (Punctuator Increment ∷ _) = true
-divides (Punctuator Decrement ∷ _) = true
-divides (Punctuator CloseParen ∷ ks) = not (is_control (opened 0 ks))
-divides _ = false
+abbrev pub divides : Context → Bool
+divides c = divides_after c.last c.closed
 
--- ---- names before `(`
+abbrev pub drops : Context → Bool
+drops c = drops_after c.last c.closed
 
 -- the kind of a token with what follows it: a name directly before `(` is a FuncName
 abbrev pub followed : List ℕ → TokenKind → TokenKind
 followed (c ∷ _) Name = if c == open_paren then FuncName else Name
 followed _ k = k
 
--- ---- newlines and semicolons: the three rules, in the order in which they are applied
+-- ---- newlines and semicolons: three rules, in this order
 
--- Rule 1, while the script is cut. A newline is dropped at the start, after another newline, after `; { } && || , do else`,
--- and after a `)` that closes a control parenthesis or the parameter list of `function`. Every other newline is the token `;`.
+-- Rule 1, while the script is cut: a newline is dropped by its table, and every other newline is the token `;`.
 -- (A newline after another newline stands after its `;`, or, where that one was dropped, after what it was dropped after.)
-
--- whether a newline after these kinds is dropped
-abbrev pub drops : List TokenKind → Bool
-drops [] = true
-drops (Punctuator Semicolon ∷ _) = true
-drops (Punctuator OpenBrace ∷ _) = true
-drops (Punctuator CloseBrace ∷ _) = true
-drops (Punctuator And ∷ _) = true
-drops (Punctuator Or ∷ _) = true
-drops (Punctuator Comma ∷ _) = true
-drops (Keyword Do ∷ _) = true
-drops (Keyword Else ∷ _) = true
-drops (Punctuator CloseParen ∷ ks) = not (is_plain (opened 0 ks))
-drops _ = false
 
 -- The kind that a piece is kept as, if it is kept: a blank never, a newline by rule 1, a token always. `rest` is what
 -- follows the piece.
-abbrev pub kept : List TokenKind → List ℕ → Option Piece → Option TokenKind
+abbrev pub kept : Context → List ℕ → Option Piece → Option TokenKind
 kept before rest None = None
 kept before rest (Some Blank) = None
 kept before rest (Some Newline) = if drops before then None else Some (Punctuator Semicolon)
 kept before rest (Some (Token k)) = Some (followed rest k)
 
--- Rule 2, over the tokens of the whole script. A `;` directly between `}` and `else`, or between `}` and `while`, is dropped.
+-- Rule 2, over the tokens of the whole script: a `;` directly between `}` and `else` or `while` is dropped.
 
-abbrev pub is_semicolon : TokenKind → Bool
-is_semicolon (Punctuator Semicolon) = true
-is_semicolon _ = false
+-- whether the second of three kinds in a row is dropped; there may be none before it
+abbrev pub is_dropped : Option TokenKind → TokenKind → TokenKind → Bool
+is_dropped (Some (Punctuator CloseBrace)) (Punctuator Semicolon) (Keyword Else) = true
+is_dropped (Some (Punctuator CloseBrace)) (Punctuator Semicolon) (Keyword While) = true
+is_dropped _ _ _ = false
 
-abbrev pub is_open_brace : TokenKind → Bool
-is_open_brace (Punctuator OpenBrace) = true
-is_open_brace _ = false
+-- the first argument is the former kind
+abbrev pub without : Option TokenKind → List Spelled → List Spelled
+without former [] = []
+without former (t ∷ []) = t ∷ []
+without former (t ∷ (u ∷ ts)) = if is_dropped former t.kind u.kind then without (Some t.kind) (u ∷ ts) else t ∷ without (Some t.kind) (u ∷ ts)
 
-abbrev pub is_close_brace : TokenKind → Bool
-is_close_brace (Punctuator CloseBrace) = true
-is_close_brace _ = false
+-- Rule 3, over what rule 2 leaves: a `;` is put before each `}` except after `{`, `}` and `;`, and at the end except after
+-- `}` and `;` and in an empty script. It has the line of the token before it, or 1, and no text.
 
-abbrev pub is_lead : TokenKind → Bool
-is_lead (Keyword Else) = true
-is_lead (Keyword While) = true
-is_lead _ = false
+-- whether one is put between two kinds in a row; the start has none before it, and the end none after it
+abbrev pub is_put : Option TokenKind → Option TokenKind → Bool
+is_put (Some (Punctuator Semicolon)) _ = false
+is_put (Some (Punctuator CloseBrace)) _ = false
+is_put (Some (Punctuator OpenBrace)) (Some _) = false
+is_put _ (Some (Punctuator CloseBrace)) = true
+is_put (Some _) None = true
+is_put _ _ = false
 
--- `else` or `while` stands here
-abbrev pub leads : List Spelled → Bool
-leads [] = false
-leads (t ∷ _) = is_lead t.kind
+abbrev pub semicolon : ℕ → Spelled
+semicolon line = record { kind = Punctuator Semicolon; line = line; text = [] }
 
--- rule 2; the first argument says whether a `}` stands directly before
-abbrev pub without : Bool → List Spelled → List Spelled
-without brace [] = []
-without brace (t ∷ ts) = if brace && (is_semicolon t.kind && leads ts) then without (is_close_brace t.kind) ts
-    else t ∷ without (is_close_brace t.kind) ts
-
--- Rule 3, over what rule 2 leaves. A `;` is put before each `}` whose former token is not `{`, `}` or `;`, and at the end if
--- there is a token and the last one is not `}` or `;`.
-
--- the `;` that is put after a token: it has that token's line, and no text
-abbrev pub inserted : Option Spelled → Spelled
-inserted None = record { kind = Punctuator Semicolon; line = 1; text = [] }
-inserted (Some former) = record { kind = Punctuator Semicolon; line = former.line; text = [] }
-
--- whether a `}` after this token needs a `;` before it
-abbrev pub is_open_end : Option Spelled → Bool
-is_open_end None = true
-is_open_end (Some former) = not (is_open_brace former.kind || (is_close_brace former.kind || is_semicolon former.kind))
-
--- whether a script that ends in this token needs a `;` at the end
-abbrev pub is_unended : Option Spelled → Bool
-is_unended None = false
-is_unended (Some former) = not (is_close_brace former.kind || is_semicolon former.kind)
-
--- rule 3; the first argument is the former token
-abbrev pub with_ends : Option Spelled → List Spelled → List Spelled
-with_ends former [] = if is_unended former then inserted former ∷ [] else []
-with_ends former (t ∷ ts) = if is_close_brace t.kind && is_open_end former then inserted former ∷ (t ∷ with_ends (Some t) ts)
-    else t ∷ with_ends (Some t) ts
+-- the first arguments are the former token's kind and line
+abbrev pub with_ends : Option TokenKind → ℕ → List Spelled → List Spelled
+with_ends former line [] = if is_put former None then semicolon line ∷ [] else []
+with_ends former line (t ∷ ts) = if is_put former (Some t.kind) then semicolon line ∷ (t ∷ with_ends (Some t.kind) t.line ts)
+    else t ∷ with_ends (Some t.kind) t.line ts
 
 -- rules 2 and 3
 abbrev pub finished : Result (List Spelled) TokenFault → Result (List Spelled) TokenFault
-finished (Ok ts) = Ok (with_ends None (without false ts))
+finished (Ok ts) = Ok (with_ends None 1 (without None ts))
 finished (Err e) = Err e
 
 -- ---- the longest cutting
@@ -176,18 +160,19 @@ abbrev pub joined : List (List ℕ) → List ℕ
 joined [] = []
 joined (t ∷ ts) = t ++ joined ts
 
-abbrev pub with_kind : Option TokenKind → List TokenKind → List TokenKind
-with_kind None ks = ks
-with_kind (Some k) ks = k ∷ ks
+-- after a piece that is kept as this kind, or not kept
+abbrev pub after_kept : Option TokenKind → Context → Context
+after_kept None before = before
+after_kept (Some kind) before = after before kind
 
--- the kinds after a piece: those before, and the one that the piece is kept as
-abbrev pub kinds_after : List TokenKind → List ℕ → List ℕ → List TokenKind
-kinds_after before text rest = with_kind (kept before rest (piece_of (divides before) text)) before
+-- after this text
+abbrev pub after_text : Context → List ℕ → List ℕ → Context
+after_text before text rest = after_kept (kept before rest (piece_of (divides before) text)) before
 
 -- the texts are the longest pieces, each slash of the kind that the kept tokens before it say, as far as there are pieces
-abbrev pub IsCutting : List TokenKind → List (List ℕ) → List ℕ → Type 0
+abbrev pub IsCutting : Context → List (List ℕ) → List ℕ → Type 0
 IsCutting before [] rest = IsStop (divides before) rest
-IsCutting before (t ∷ ts) rest = IsLongest (divides before) t (joined ts ++ rest) × IsCutting (kinds_after before t (joined ts ++ rest)) ts rest
+IsCutting before (t ∷ ts) rest = IsLongest (divides before) t (joined ts ++ rest) × IsCutting (after_text before t (joined ts ++ rest)) ts rest
 
 -- ---- lines and refusals
 
@@ -207,18 +192,17 @@ with_token None line text r = r
 with_token (Some k) line text (Ok ts) = Ok (record { kind = k; line = line; text = text } ∷ ts)
 with_token (Some k) line text (Err e) = Err e
 
--- The tokens of a cutting that takes the whole script, each on the line where it begins, or why the cutting does not take it.
--- Newlines are kept by rule 1.
-abbrev pub outcome : ℕ → List TokenKind → List (List ℕ) → List ℕ → Result (List Spelled) TokenFault
+-- the tokens of a cutting that takes the whole script, each on the line where it begins, or why the cutting does not take it
+abbrev pub outcome : ℕ → Context → List (List ℕ) → List ℕ → Result (List Spelled) TokenFault
 outcome line before [] [] = Ok []
 outcome line before [] (c ∷ _) = Err (refusal (divides before) line c)
 outcome line before (t ∷ ts) rest = with_token (kept before (joined ts ++ rest) (piece_of (divides before) t)) line t
-    (outcome (line + newlines t) (kinds_after before t (joined ts ++ rest)) ts rest)
+    (outcome (line + newlines t) (after_text before t (joined ts ++ rest)) ts rest)
 
 -- what a script's longest cutting gives, with rules 2 and 3 applied to its tokens
 pub record IsTokens (script : List ℕ) (found : Result (List Spelled) TokenFault) : Type 0 where
   pub texts : List (List ℕ)
   pub rest : List ℕ
   pub whole : joined texts ++ rest ≡ script
-  pub cutting : IsCutting [] texts rest
-  pub gives : found ≡ finished (outcome 1 [] texts rest)
+  pub cutting : IsCutting start texts rest
+  pub gives : found ≡ finished (outcome 1 start texts rest)

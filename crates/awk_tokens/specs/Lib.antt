@@ -2,6 +2,8 @@ pub mod Words
 pub mod Numbers
 pub mod Pieces
 pub mod Cutting
+pub mod Kinds
+pub mod Rules
 pub mod Reading
 pub mod State
 pub mod Views

@@ -1,7 +1,6 @@
 -- How the longest piece at the front is found.
 use Rattle.std.specs.Prelude.{ℕ, zero, suc, Result, Ok, Err, ◌+◌, Bool, true, false, ◌&&◌, ◌||◌, ◌==◌, not, if◌then◌else◌, Option, Some, None, option_map, List, [], ◌∷◌, length, take, drop, take_while}
 use Rattle.awk_tokens.specs.declared.token.Punctuator.{Punctuator as AnyPunctuator}
-use Rattle.awk_tokens.specs.declared.token.TokenKind.{TokenKind}
 use Rattle.awk_tokens.specs.declared.token.TokenKind.TheVariants.{Number, Str, Ere}
 use Rattle.awk_tokens.specs.declared.token.Piece.{Piece}
 use Rattle.awk_tokens.specs.declared.token.Piece.TheVariants.{Blank, Newline, Token}
@@ -10,7 +9,7 @@ use Rattle.awk_text.specs.Bytes.{tab, newline, space, quote, hash, point, slash,
 use Rattle.awk_tokens.specs.Numbers.{is_digit, is_sign, is_exponent_mark, begins_digit}
 use Rattle.awk_tokens.specs.Words.{entry, reserved_word_of}
 use Rattle.awk_tokens.specs.Pieces.{starts_name, goes_on, on_line, punctuators, word_kind, mark_of}
-use Rattle.awk_tokens.specs.Cutting.{Spelled, kept, with_kind, divides, newlines, refusal, with_token}
+use Rattle.awk_tokens.specs.Cutting.{Spelled, Context, start, divides, kept, after_kept, newlines, refusal, with_token}
 
 -- how many of the first bytes pass
 abbrev pub count_while : (ℕ → Bool) → List ℕ → ℕ
@@ -100,21 +99,21 @@ front_at division c cs =
     else mark_at c cs
 
 -- what is read from here: the first piece, and so on
-abbrev pub from_front : (ℕ → List TokenKind → List ℕ → Result (List Spelled) TokenFault) → ℕ → List TokenKind → ℕ → List ℕ → Option (Piece × ℕ)
+abbrev pub from_front : (ℕ → Context → List ℕ → Result (List Spelled) TokenFault) → ℕ → Context → ℕ → List ℕ → Option (Piece × ℕ)
     → Result (List Spelled) TokenFault
 from_front go line before c cs None = Err (refusal (divides before) line c)
 from_front go line before c cs (Some x) =
     with_token (kept before (drop x.1 cs) (Some x.0)) line (c ∷ take x.1 cs)
-    (go (line + newlines (c ∷ take x.1 cs)) (with_kind (kept before (drop x.1 cs) (Some x.0)) before) (drop x.1 cs))
+    (go (line + newlines (c ∷ take x.1 cs)) (after_kept (kept before (drop x.1 cs) (Some x.0)) before) (drop x.1 cs))
 
-unfoldable pub cut_at : ℕ → ℕ → List TokenKind → List ℕ → Result (List Spelled) TokenFault
+unfoldable pub cut_at : ℕ → ℕ → Context → List ℕ → Result (List Spelled) TokenFault
 cut_at n line before [] = Ok []
 cut_at zero line before (c ∷ cs) = Ok []
 cut_at (suc n) line before (c ∷ cs) = from_front (cut_at n) line before c cs (front_at (divides before) c cs)
 
 -- the tokens of a script, before `;` are dropped and put
 unfoldable pub raw_of : List ℕ → Result (List Spelled) TokenFault
-raw_of script = cut_at (length script) 1 [] script
+raw_of script = cut_at (length script) 1 start script
 
 abbrev pub front_of : Bool → List ℕ → Option (Piece × ℕ)
 front_of division [] = None

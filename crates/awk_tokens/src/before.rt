@@ -1,9 +1,8 @@
 //! What the tokens before a place say.
 
-ghost use Rattle.std.specs.Prelude.{◌≡◌, List, [], ◌∷◌, IfOk};
-ghost use Rattle.awk_tokens.specs.declared.token.TokenKind.{TokenKind as AnyKind};
-ghost use Rattle.awk_tokens.specs.Cutting.{divides, drops};
-ghost use Rattle.awk_tokens.specs.State.{Tells, role_by};
+ghost use Rattle.std.specs.Prelude.{◌≡◌, IfOk};
+ghost use Rattle.awk_tokens.specs.Cutting.{start, opens_after, after, divides, drops};
+ghost use Rattle.awk_tokens.specs.State.{context_of};
 
 use crate::reserved_words::{Builtin, Keyword};
 use crate::token::{Punctuator, Role, TokenKind};
@@ -19,7 +18,7 @@ pub(crate) struct Before {
 }
 
 fn role(last: Option<TokenKind>, former: Option<TokenKind>) -> Role
-    ensures { result ≡ role_by last former }
+    ensures { result ≡ opens_after last former }
 {
     match (last, former) {
         (Some(TokenKind::Keyword(Keyword::If | Keyword::While | Keyword::For)), _) => Role::Control,
@@ -33,7 +32,7 @@ fn role(last: Option<TokenKind>, former: Option<TokenKind>) -> Role
 
 impl Before {
     pub(crate) fn new(alloc: Global) -> Before
-        ensures { Tells result [] }
+        ensures { context_of result ≡ start }
     {
         Before {
             last: None,
@@ -45,7 +44,7 @@ impl Before {
 
     /// Whether a slash here divides.
     pub(crate) fn divides(&self) -> bool
-        ensures { (ks : List AnyKind) → Tells self.now ks → result ≡ divides ks }
+        ensures { result ≡ divides (context_of self.now) }
     {
         match self.last {
             Some(
@@ -68,7 +67,7 @@ impl Before {
 
     /// Whether a newline here is dropped.
     pub(crate) fn drops(&self) -> bool
-        ensures { (ks : List AnyKind) → Tells self.now ks → result ≡ drops ks }
+        ensures { result ≡ drops (context_of self.now) }
     {
         match self.last {
             None => true,
@@ -92,8 +91,7 @@ impl Before {
 
     /// Goes on after a token of this kind.
     pub(crate) fn push(&mut self, kind: TokenKind) -> Result<(), AllocError>
-        ensures { IfOk result
-            (λ _. (ks : List AnyKind) → Tells self.old ks → Tells self.new (kind ∷ ks)) }
+        ensures { IfOk result (λ _. context_of self.new ≡ after (context_of self.old) kind) }
     {
         let opened = role(self.last, self.former);
         self.former = self.last;

@@ -1,9 +1,8 @@
 //! A script is cut into its longest pieces.
 
-ghost use Rattle.std.specs.Prelude.{◌≡◌, ◌+◌, ◌≤◌, length, ◌⊎◌, Ok, Err, IfOk, IfErr, Some, List, map};
-ghost use Rattle.awk_tokens.specs.declared.token.TokenKind.{TokenKind as AnyKind};
+ghost use Rattle.std.specs.Prelude.{◌≡◌, ◌+◌, ◌≤◌, length, ◌⊎◌, Ok, Err, IfOk, IfErr, Some, map};
 ghost use Rattle.awk_tokens.specs.declared.token.TokenFault.TheVariants.{NoMemory};
-ghost use Rattle.awk_tokens.specs.State.{Tells};
+ghost use Rattle.awk_tokens.specs.State.{context_of};
 ghost use Rattle.awk_tokens.specs.Cutting.{newlines, refusal, followed, kept, IsTokens};
 ghost use Rattle.awk_tokens.specs.Reading.{raw_of};
 ghost use Rattle.awk_tokens.specs.Views.{spelled};
@@ -62,7 +61,7 @@ fn kind_with(rest: &[u8], kind: TokenKind) -> TokenKind
 
 /// The kind that a piece is kept as, if it is kept.
 fn kind_kept(before: &Before, piece: Piece, rest: &[u8]) -> Option<TokenKind>
-    ensures { (ks : List AnyKind) → Tells before.now ks → result ≡ kept ks rest.now (Some piece) }
+    ensures { result ≡ kept (context_of before.now) rest.now (Some piece) }
 {
     match piece {
         Piece::Blank => None,

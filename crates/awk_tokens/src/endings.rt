@@ -1,7 +1,7 @@
 //! Each `;` that is dropped before `else` and `while`, or put before `}` and at the end.
 
 ghost use Rattle.std.specs.Prelude.{◌≡◌, List, IfOk, map, option_map, false, None};
-ghost use Rattle.awk_tokens.specs.Cutting.{is_semicolon, is_open_brace, is_close_brace, is_lead, leads, without, inserted, is_open_end, is_unended, with_ends};
+ghost use Rattle.awk_tokens.specs.Rules.{is_semicolon, is_open_brace, is_close_brace, is_lead, leads, rule_two, inserted, is_open_end, is_unended, rule_three};
 ghost use Rattle.awk_tokens.specs.Views.{spelled};
 
 use crate::reserved_words::Keyword;
@@ -45,7 +45,7 @@ pub(crate) fn without_dropped<'a>(
     alloc: Global,
     tokens: &[Token<'a>],
 ) -> Result<Vec<Token<'a>>, AllocError>
-    ensures { IfOk result (λ ts. map spelled ts.items ≡ without false (map spelled tokens.now)) }
+    ensures { IfOk result (λ ts. map spelled ts.items ≡ rule_two false (map spelled tokens.now)) }
 {
     let mut kept = Vec::new(alloc);
     let mut brace = false;
@@ -100,7 +100,7 @@ pub(crate) fn with_inserted<'a>(
     alloc: Global,
     tokens: &[Token<'a>],
 ) -> Result<Vec<Token<'a>>, AllocError>
-    ensures { IfOk result (λ ts. map spelled ts.items ≡ with_ends None (map spelled tokens.now)) }
+    ensures { IfOk result (λ ts. map spelled ts.items ≡ rule_three None (map spelled tokens.now)) }
 {
     let mut ended = Vec::new(alloc);
     let mut former: Option<Token<'a>> = None;

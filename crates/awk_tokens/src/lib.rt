@@ -13,4 +13,4 @@ mod token_laws;
 pub use cut::tokens;
 pub use reserved_words::{Builtin, Keyword, LeftOut, ReservedWord, reserved_word};
 pub use token::{Punctuator, Token, TokenFault, TokenKind};
-pub use token_laws::{one_token_list, some_token_list};
+pub use token_laws::{kinds_before_decide, one_token_list, some_token_list};

@@ -1,5 +1,5 @@
 -- The command line of awkwasm, as the words of clap's specification say it.
-use Rattle.std.specs.Prelude.{ℕ, ◌≡◌, ◌==◌, ◌^◌, ◌-◌, ◌&&◌, ◌||◌, List, [], ◌∷◌, Bool, Some, true, false, codes}
+use Rattle.std.specs.Prelude.{ℕ, ◌≡◌, ◌==◌, ◌^◌, ◌-◌, ◌&&◌, ◌||◌, List, [], ◌∷◌, Bool, Option, Some, None, true, false, codes, if◌then◌else◌, slice_get}
 use Rattle.std.specs.Borrow.{Bor}
 use Rattle.std.specs.List.{list_any, starts_with}
 use Rattle.std.specs.Str.{bytes_eq}
@@ -11,6 +11,8 @@ use Rattle.clap.specs.declared.builder.action.ArgAction.TheVariants.{Set, Append
 use Rattle.clap.specs.declared.error.kind.ErrorKind.{ErrorKind}
 use Rattle.clap.specs.declared.error.kind.ErrorKind.TheVariants.{DisplayHelp, DisplayVersion, OutOfMemory}
 use Rattle.clap.specs.declared.builder.value_parser.ValueParser.TheVariants.{Unsigned}
+use Rattle.command_line.specs.declared.Named.{Named}
+use Rattle.command_line.specs.declared.Named.TheVariants.{Run, Count, Exec, Other}
 
 -- a command of this kind, none of whose arguments is one of its subcommands, too
 pub record Builds (app : App) (c : Command) : Type 0 where
@@ -106,6 +108,39 @@ abbrev pub line_app : App
 line_app =
     with_subcommand (with_subcommand (with_subcommand (with_subcommand (with_subcommand (with_subcommand (with_subcommand top_app compile_app.top) check_app.top)
     run_app.top) count_app.top) exec_app.top) imports_app.top) explain_app.top
+
+-- The line as it is built for a command that the words name: of the commands with many arguments the others have none.
+
+abbrev pub named_by : Text → Named
+named_by word = if bytes_eq word (codes "run") then Run else if bytes_eq word (codes "count") then Count else if bytes_eq word (codes "exec") then Exec else Other
+
+abbrev pub named_word : Option (Bor Text) → Named
+named_word (Some word) = named_by word.now
+named_word None = Other
+
+-- by the first word after the program's name
+abbrev pub named_in : List (Bor Text) → Named
+named_in words = named_word (slice_get words 1)
+
+abbrev pub run_in : Named → App
+run_in Run = run_app
+run_in Other = run_app
+run_in _ = new_app (codes "run")
+
+abbrev pub count_in : Named → App
+count_in Count = count_app
+count_in Other = count_app
+count_in _ = new_app (codes "count")
+
+abbrev pub exec_in : Named → App
+exec_in Exec = exec_app
+exec_in Other = exec_app
+exec_in _ = new_app (codes "exec")
+
+abbrev pub line_for : Named → App
+line_for named =
+    with_subcommand (with_subcommand (with_subcommand (with_subcommand (with_subcommand (with_subcommand (with_subcommand top_app compile_app.top) check_app.top)
+    (run_in named).top) (count_in named).top) (exec_in named).top) imports_app.top) explain_app.top
 
 -- the exit status of a line that asks for nothing
 abbrev pub status_of_kind : ErrorKind → ℕ

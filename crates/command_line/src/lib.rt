@@ -3,9 +3,9 @@
 
 ghost use Rattle.std.specs.Prelude.{◌≡◌, ◌≢◌, ◌↔◌, [], IfOk, IsSomeAnd, IsTrue, false};
 ghost use Rattle.std.specs.Prelude.{Ok, Some, map, option_map, true, IfErr, codes};
-ghost use Rattle.clap.specs.Words.{App, IsAmong, Rule, app_of, fault_of, rule_of, takes, kind_of, rows_of, found_of, matches_of, one_of, first_of, new_app, new_rule, subcommand_rows_of, subcommand_of, with_rule, with_subcommand};
+ghost use Rattle.clap.specs.Words.{App, FailsBy, IsAmong, Rule, app_of, fault_of, rule_of, takes, kind_of, rows_of, found_of, matches_of, one_of, first_of, new_app, new_rule, subcommand_rows_of, subcommand_of, with_rule, with_subcommand};
 ghost use Rattle.command_line.specs.Request.{Asks, IsFences, IsFlag, IsLimits, IsNumber, IsTask, texts, word_at, words_at};
-ghost use Rattle.command_line.specs.Line.{Builds, single, flag_rule, names_rule, number_rule, options_app, fences_app, names_app, limits_app, check_app, compile_app, count_app, run_app, exec_app, task_app, explain_app, imports_app, top_app, line_app, is_file_option, has_file_option, status_of_kind, takes_text, text_apart};
+ghost use Rattle.command_line.specs.Line.{Builds, single, flag_rule, names_rule, number_rule, options_app, fences_app, names_app, limits_app, check_app, compile_app, count_app, run_app, exec_app, task_app, explain_app, imports_app, top_app, line_app, line_for, named_by, named_in, run_in, count_in, exec_in, is_file_option, has_file_option, status_of_kind, takes_text, text_apart};
 
 mod spelling;
 
@@ -269,6 +269,41 @@ fn task_command<'a>(
     with_arg(command, free_arg(alloc, "words", help, ArgAction::Append))
 }
 
+/// The command that a line names, of those with many arguments.
+#[derive(Clone, Copy)]
+enum Named {
+    Run,
+    Count,
+    Exec,
+    /// Another one, or none.
+    Other,
+}
+
+fn named_by(word: &str) -> Named
+    ensures { result ≡ named_by word.now }
+{
+    if word == "run" {
+        return Named::Run;
+    }
+    if word == "count" {
+        return Named::Count;
+    }
+    if word == "exec" {
+        return Named::Exec;
+    }
+    Named::Other
+}
+
+/// The command that a line names with its first word after the program's name.
+fn named_in(words: &[&str]) -> Named
+    ensures { result ≡ named_in words.now }
+{
+    match words.get(1) {
+        Some(word) => named_by(word),
+        None => Named::Other,
+    }
+}
+
 fn run_command<'a>(alloc: Global) -> Result<Command<'a>, AllocError>
     ensures { IfOk result (Builds run_app) }
 {
@@ -294,6 +329,34 @@ fn exec_command<'a>(alloc: Global) -> Result<Command<'a>, AllocError>
     let command = task_command(alloc, "exec", about, "module", "The module's file");
     let help = "After an error, say at which line it happened, by the lines of compile --lines";
     with_arg(command, flag_arg(alloc, "where", help))
+}
+
+/// `run`, with its arguments unless the line names another command that has many.
+fn run_in<'a>(alloc: Global, named: Named) -> Result<Command<'a>, AllocError>
+    ensures { IfOk result (Builds (run_in named)) }
+{
+    match named {
+        Named::Run | Named::Other => run_command(alloc),
+        _ => Ok(named_command(alloc, "run", "")),
+    }
+}
+
+fn count_in<'a>(alloc: Global, named: Named) -> Result<Command<'a>, AllocError>
+    ensures { IfOk result (Builds (count_in named)) }
+{
+    match named {
+        Named::Count | Named::Other => count_command(alloc),
+        _ => Ok(named_command(alloc, "count", "")),
+    }
+}
+
+fn exec_in<'a>(alloc: Global, named: Named) -> Result<Command<'a>, AllocError>
+    ensures { IfOk result (Builds (exec_in named)) }
+{
+    match named {
+        Named::Exec | Named::Other => exec_command(alloc),
+        _ => Ok(named_command(alloc, "exec", "")),
+    }
 }
 
 fn compile_command<'a>(alloc: Global) -> Result<Command<'a>, AllocError>
@@ -374,16 +437,33 @@ fn with_subcommand<'a>(
     }
 }
 
-fn command<'a>(alloc: Global) -> Result<Command<'a>, AllocError>
-    ensures { IfOk result (λ c. app_of c ≡ line_app) }
+/// The whole line, but for the arguments of the commands that have many and are not named.
+fn command<'a>(alloc: Global, named: Named) -> Result<Command<'a>, AllocError>
+    ensures { IfOk result (λ c. app_of c ≡ line_for named) }
 {
     let line = with_subcommand(Ok(top_command(alloc)), compile_command(alloc));
     let line = with_subcommand(line, check_command(alloc));
-    let line = with_subcommand(line, run_command(alloc));
-    let line = with_subcommand(line, count_command(alloc));
-    let line = with_subcommand(line, exec_command(alloc));
+    let line = with_subcommand(line, run_in(alloc, named));
+    let line = with_subcommand(line, count_in(alloc, named));
+    let line = with_subcommand(line, exec_in(alloc, named));
     let line = with_subcommand(line, imports_command(alloc));
     with_subcommand(line, explain_command(alloc))
+}
+
+/// What clap finds in the words, by a line that was built for the command that they name.
+fn matches_in<'a>(
+    alloc: Global,
+    words: &'a [&'a str],
+    named: Named,
+) -> Result<ArgMatches<'a>, Error>
+    ensures ok { IfOk result
+        (λ m. (rows_of (found_of m) ≡ matches_of (line_for named) (map (λ s. s.now) words.now))
+        × (subcommand_rows_of m ≡ subcommand_of (line_for named) (map (λ s. s.now) words.now))) }
+    ensures err { IfErr result (λ e. takes (line_for named) (map (λ s. s.now) words.now) ≡ true
+        → kind_of e ≡ ErrorKind.OutOfMemory) }
+    ensures kinds { FailsBy (fault_of (line_for named) (map (λ s. s.now) words.now)) result }
+{
+    command(alloc, named)?.try_get_matches_from(words)
 }
 
 /// What clap finds in a line, whose first word is the program's name: it follows from the words.
@@ -402,7 +482,11 @@ pub fn matches_of_line<'a>(alloc: Global, words: &'a [&'a str]) -> Result<ArgMat
     ensures cause { IfErr result (λ e. kind_of e ≢ ErrorKind.OutOfMemory
         → IsAmong (kind_of e) (fault_of line_app (map (λ s. s.now) words.now))) }
 {
-    command(alloc)?.try_get_matches_from(words)
+    match matches_in(alloc, words, named_in(words)) {
+        Ok(found) => Ok(found),
+        // The text of an error tells of the whole line.
+        Err(_) => matches_in(alloc, words, Named::Other),
+    }
 }
 
 /// The exit status of a line that asks for nothing: 0 where help or the version was asked for, 5 for want of memory, else 8.

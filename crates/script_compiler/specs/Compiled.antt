@@ -58,22 +58,22 @@ pub record KeepsNothing (code : Program) (m : ModuleForm) : Type 0 where
   pub returned : (job : JobForm) (input : Source) (outside : Environment) (a : MachineForm) (c : Conf) (s : HostState)
       → Reached m job input outside a c s → (n : ℕ) → turn a.program c ≡ Ends (ends.Returned (Some (I32 n))) → AtReturn code c s
 
--- A module is quiet on numbers. Where a run stands at a statement `name = Expr` of the script, after which another one comes in its list, with number
--- constants, names, groups, `+`, `-` and `*` in Expr, and each name is unboxed and none of those to which the command line has assigned in this run, it
--- calls no import up to the place of the next statement, or to the fault.
-abbrev pub IsHostCallFree : Resolved → ModuleForm → Type 0
-IsHostCallFree script m = (job : JobForm) (input : Source) (outside : Environment) (a : MachineForm) (c : Conf) (s : HostState)
-    → (reached : Reached m job input outside a c s) → (here : AtStatement (final_program script) c s)
-    → (on : AtAssignment script c s here (IsAssigned reached))
+-- If a run is at a statement `name = Expr` of the script, after which another one comes in its list, with number constants, names, groups, `+`, `-` and
+-- `*` in Expr, and each name is unboxed and does not count as assigned, it calls no import up to the place of the next statement, or to the fault.
+abbrev pub IsQuietAt : Resolved → MachineForm → Conf → HostState → (Assigned : ℕ → Type 0) → Type 0
+IsQuietAt script a c s Assigned = (here : AtStatement (final_program script) c s) → (on : AtAssignment script c s here Assigned)
     → HostCallFree a.program c (λ there. AtFollowing script on.home on.around on.next on.further c there ⊎ AtFault (final_program script) c there)
 
--- The same, said of the script and the job alone. Where the script's code does not name ARGV, such a statement whose names are all unboxed is so quiet
--- in each job of which no word, a `-v` or an operand, assigns to one of these names.
+-- A module is quiet on numbers wherever a run comes to. A name counts as assigned if the command line has assigned to it in this run.
+abbrev pub IsHostCallFree : Resolved → ModuleForm → Type 0
+IsHostCallFree script m = (job : JobForm) (input : Source) (outside : Environment) (a : MachineForm) (c : Conf) (s : HostState)
+    → (reached : Reached m job input outside a c s) → IsQuietAt script a c s (IsAssigned reached)
+
+-- The same, said of the script and the job alone, if the script's code does not name ARGV. A name counts as assigned if a word of the job, a `-v` or an
+-- operand, assigns to it.
 abbrev pub IsQuietByWords : Resolved → ModuleForm → Type 0
 IsQuietByWords script m = program_names (final_program script) ≡ false → (job : JobForm) (input : Source) (outside : Environment) (a : MachineForm)
-    (c : Conf) (s : HostState) → (reached : Reached m job input outside a c s) → (here : AtStatement (final_program script) c s)
-    → (on : AtAssignment script c s here (λ i. AssignsName (final_program script) job i))
-    → HostCallFree a.program c (λ there. AtFollowing script on.home on.around on.next on.further c there ⊎ AtFault (final_program script) c there)
+    (c : Conf) (s : HostState) → Reached m job input outside a c s → IsQuietAt script a c s (AssignsName (final_program script) job)
 
 -- Where a statement begins each caller that waits has at most as many operands pending as its function has expressions in the script, each part of
 -- one counted too; `main` as many as stand in no function. So at most so many values are alive.

@@ -1,2 +1,3 @@
 mod Again
+mod CutByKinds
 mod ReadScripts

@@ -1,8 +1,7 @@
 -- What is read from bytes means what the definitions say.
 use Rattle.std.proofs.Common.{◌≡◌, ℕ, List, Option, Some, None, Result, Ok, Err, refl, sym, ap, subst, ◌∙◌}
 use Rattle.awk_tokens.specs.declared.token.TokenFault.{TokenFault}
-use Rattle.awk_tokens.specs.Cutting.{Spelled, IsTokens, finished}
-use Rattle.awk_tokens.specs.Reading.{raw_of}
+use Rattle.awk_tokens.specs.Cutting.{Spelled, IsTokens}
 use Rattle.awk_tokens.proofs.Whole.{one_outcome, read_is_tokens}
 use Rattle.awk_grammar.specs.Reading.{Fault, Syntax, TooDeep as DepthFault}
 use Rattle.awk_grammar.specs.Trees.{Item}
@@ -17,6 +16,8 @@ use Rattle.awk_grammar.specs.Kinds.{Refusal, refusal}
 use Rattle.sem_scripts.specs.Kinds.{resolved}
 use Rattle.sem_scripts.specs.ScriptRun.{Ending, Setting, resolved_run}
 use Rattle.test_parts.specs.Sources.{Refused, by_names, by_places, by_tree, by_scan, by_tokens, script_of, run_from, run_in}
+use Rattle.test_parts.specs.TokensByKinds.{tokens_by}
+use Rattle.test_parts.proofs.CutByKinds.{tokens_same}
 use Rattle.test_parts.specs.Meant.{IsScriptOf, IsRefusedFor, IsRunOf}
 
 abbrev pub Says : List ℕ → Result (List Item) Refused → Type 0
@@ -47,8 +48,11 @@ tokens_say : (bytes : List ℕ) (r : Result (List Spelled) TokenFault) → IsTok
 tokens_say bytes (Ok ts) cut = scan_says bytes ts cut (scan ts) refl
 tokens_say bytes (Err fault) cut = cut
 
+read_by_kinds : (bytes : List ℕ) → IsTokens bytes (tokens_by bytes)
+read_by_kinds bytes = subst (IsTokens bytes) (sym (tokens_same bytes)) (read_is_tokens bytes)
+
 read_says : (bytes : List ℕ) → Says bytes (script_of bytes)
-read_says bytes = tokens_say bytes (finished (raw_of bytes)) (read_is_tokens bytes)
+read_says bytes = tokens_say bytes (tokens_by bytes) (read_by_kinds bytes)
 
 pub says : (bytes : List ℕ) (r : Result (List Item) Refused) → script_of bytes ≡ r → Says bytes r
 says bytes r e = subst (Says bytes) e (read_says bytes)
@@ -60,7 +64,7 @@ again ts s p = ap (script_at 1000) (sym p.read.tree.parts) ∙ script_again s 10
 
 pub reads : (bytes : List ℕ) (s : List Item) → IsScriptOf bytes s → script_of bytes ≡ Ok s
 reads bytes s h =
-    ap by_tokens (one_outcome bytes (finished (raw_of bytes)) (Ok h.tokens) (read_is_tokens bytes) h.cut) ∙
+    ap by_tokens (one_outcome bytes (tokens_by bytes) (Ok h.tokens) (read_by_kinds bytes) h.cut) ∙
     (ap (by_scan h.tokens) h.said.parsed.whole ∙
     (ap (by_tree h.tokens) (again h.tokens s h.said.parsed) ∙
     (ap (by_places s) h.said.parsed.placed ∙ ap (by_names s) h.said.names)))

@@ -8,6 +8,7 @@ pub mod MidFurtherExamples
 pub mod FirstExamples
 pub mod FirstMidExamples
 pub mod Jobs
+pub mod TokensByKinds
 pub mod Sources
 pub mod Meant
 pub mod SourceExamples

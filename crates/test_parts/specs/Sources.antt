@@ -7,8 +7,9 @@ use Rattle.awk_text.specs.Escapes.{unescaped, escaped, octal}
 use Rattle.awk_tokens.specs.declared.token.TokenFault.{TokenFault}
 use Rattle.awk_tokens.specs.Words.{keywords, builtins, left_out_words}
 use Rattle.awk_tokens.specs.Pieces.{punctuators}
-use Rattle.awk_tokens.specs.Cutting.{Spelled, finished}
-use Rattle.awk_tokens.specs.Reading.{scale_at, exponent_length, fraction_length, number_at, close_at, mark_at, joined_at, name_at, front_at, cut_at, raw_of}
+use Rattle.awk_tokens.specs.Cutting.{Spelled}
+use Rattle.awk_tokens.specs.Reading.{scale_at, exponent_length, fraction_length, number_at, close_at, mark_at, joined_at, name_at, front_at}
+use Rattle.test_parts.specs.TokensByKinds.{cut_by, tokens_by}
 use Rattle.awk_grammar.specs.Reading.{Fault, Syntax as SyntaxFault, TooDeep as DepthFault, expr_at}
 use Rattle.awk_grammar.specs.Trees.{Item}
 use Rattle.awk_grammar.specs.Lexeme.{spoken}
@@ -66,7 +67,7 @@ by_tokens (Err fault) = Err (NoTokens fault)
 
 -- the script that bytes spell, or why they spell none
 abbrev pub script_of : List ℕ → Result (List Item) Refused
-script_of bytes = by_tokens (finished (raw_of bytes))
+script_of bytes = by_tokens (tokens_by bytes)
 
 abbrev pub run_from : Setting → ℕ → Result (List Item) Refused → Result Ending Refused
 run_from setting turns (Ok script) = Ok (resolved_run (resolved script) setting turns)
@@ -98,7 +99,7 @@ IsRefused bytes why = script_of bytes ≡ Err why
 -- what computes in the rows: a row names it in place of all that stands in its line
 unfoldable pub computed : {A : Type 0} → A → A
 unfolding digits numeral_at sign_at fraction_at exponent_at numerator denominator unescaped escaped octal keywords builtins left_out_words punctuators
-    scale_at exponent_length fraction_length number_at close_at mark_at joined_at name_at front_at cut_at raw_of expr_at stmt_at script_at
+    scale_at exponent_length fraction_length number_at close_at mark_at joined_at name_at front_at cut_by expr_at stmt_at script_at
     special_arrays special_scalars table sign_of spend_all asked value_of values_of key_of place_of passed truncated_of applied loop over_keys
     plain_done done_by all_done called items_done begun ended first_assigned records_done
 computed x = x

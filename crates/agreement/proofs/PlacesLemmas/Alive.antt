@@ -13,7 +13,7 @@ use Rattle.mid_program.specs.Sorted.{kinds_of}
 use Rattle.lower_model.specs.Machine.{array_kinds}
 use Rattle.agreement.specs.Refined.Owners.{there, wanted}
 use Rattle.agreement.specs.Places.Alive.{count_waiting, values_waiting, walks_waiting}
-use Rattle.agreement.specs.Places.NoLeaks.{AtReturn, AtStatement, EachPlace, NumbersStand, boxed, count, numbers_of, scalars, walks}
+use Rattle.agreement.specs.Places.NoLeaks.{AtReturn, AtStatement, EachPlace, NumbersStand, boxed, count, first_name, numbers_of, scalars, walks}
 use Rattle.agreement.proofs.RefinedLemmas.Room.{total}
 use Rattle.agreement.proofs.PlacesLemmas.Counting.{global_arrays, global_arrays_are, global_iterators, global_values, globals_may, local_arrays, local_values}
 use Rattle.agreement.proofs.PlacesLemmas.Numbers.{found_below, length_counted}
@@ -48,41 +48,38 @@ module _ (N : Names) (stand : NumbersStand N) where
   iterators_are = length_counted (2 ^ 31) N.iterators stand.iterators
 
 module _ (p : Program) where
-  abbrev before : ℕ
-  before = suc (suc (suc p.ranges))
-
   -- WHERE A STATEMENT BEGINS
 
   module _ (c : Conf) (s : HostState) (here : AtStatement p c s) where
-    counted : (t : Sort) → total (λ q. wanted s.names t q) 0 (2 ^ 31) ≡ count t here.own + (count t here.globals + count_waiting t here.waiting)
+    counted : (t : Sort) → total (λ q. wanted s.names t q) 0 (2 ^ 31) ≡ count t here.held.own + (count t here.held.globals + count_waiting t here.held.waiting)
     counted t =
-        wanted_exact s.names t (wanted_below s.names here.numbers t) p here.own here.globals here.waiting c.frame.locals c.globals c.callers
-        here.each_local here.each_global here.waits (here.once t)
+        wanted_exact s.names t (wanted_below s.names here.held.numbers t) p here.held.own here.held.globals here.held.waiting c.frame.locals c.globals c.callers
+        here.held.each_local here.held.each_global here.called_by.waits (here.held.once t)
 
-    pub values_alive : live_values s ≤ scalars (kinds_of p.globals) + (boxed here.function.kinds + values_waiting p here.waiting c.callers here.waits)
+    pub values_alive : live_values s ≤ scalars (kinds_of p.globals) + (boxed here.at.function.kinds + values_waiting p here.held.waiting c.callers here.called_by.waits)
     values_alive =
-        let l = values_are s.names here.numbers in
+        let l = values_are s.names here.held.numbers in
         let v = counted sort.Value in
-        let a = local_values here.function.kinds here.own here.locals_hold in
-        let b = global_values before (kinds_of p.globals) here.globals (globals_may before (kinds_of p.globals) here.globals here.names_hold) in
-        let w = values_counted p here.waiting c.callers here.waits in
+        let a = local_values here.at.function.kinds here.held.own here.by_kinds.locals_hold in
+        let b = global_values (first_name p) (kinds_of p.globals) here.held.globals (globals_may (first_name p) (kinds_of p.globals) here.held.globals here.by_kinds.names_hold) in
+        let w = values_counted p here.held.waiting c.callers here.called_by.waits in
         omega (arith, l, v, a, b, w)
 
-    pub arrays_alive : live_arrays s ≡ 2 + (array_kinds (kinds_of p.globals) + count_waiting sort.Array here.waiting)
+    pub arrays_alive : live_arrays s ≡ 2 + (array_kinds (kinds_of p.globals) + count_waiting sort.Array here.held.waiting)
     arrays_alive =
-        let l = arrays_are s.names here.numbers in
+        let l = arrays_are s.names here.held.numbers in
         let r = counted sort.Array in
-        let a = local_arrays here.function.kinds here.own here.locals_hold in
-        let b = global_arrays_are before (kinds_of p.globals) here.globals here.names_hold in
+        let a = local_arrays here.at.function.kinds here.held.own here.by_kinds.locals_hold in
+        let b = global_arrays_are (first_name p) (kinds_of p.globals) here.held.globals here.by_kinds.names_hold in
         omega (arith, l, r, a, b)
 
     pub iterators_alive : live_iterators s ≡ walks (numbers_of p) c.frame.labels + walks_waiting (numbers_of p) c.callers
     iterators_alive =
-        let l = iterators_are s.names here.numbers in
+        let l = iterators_are s.names here.held.numbers in
         let i = counted sort.Iterator in
-        let a = here.walked in
-        let b = global_iterators before (kinds_of p.globals) here.globals (globals_may before (kinds_of p.globals) here.globals here.names_hold) in
-        let w = iterators_counted p here.waiting c.callers here.waits in
+        let a = here.by_kinds.walked in
+        let b = global_iterators (first_name p) (kinds_of p.globals) here.held.globals (globals_may (first_name p) (kinds_of p.globals) here.held.globals here.by_kinds.names_hold) in
+        let w = iterators_counted p here.held.waiting c.callers here.called_by.waits in
         omega (arith, l, i, a, b, w)
 
   -- WHERE `main` HAS RETURNED
@@ -95,19 +92,19 @@ module _ (p : Program) where
     values_left =
         let l = values_are s.names here.numbers in
         let v = counted_left sort.Value in
-        let b = global_values before (kinds_of p.globals) here.globals here.names_hold in
+        let b = global_values (first_name p) (kinds_of p.globals) here.globals here.names_hold in
         omega (arith, l, v, b)
 
     pub arrays_left : live_arrays s ≤ 2 + array_kinds (kinds_of p.globals)
     arrays_left =
         let l = arrays_are s.names here.numbers in
         let r = counted_left sort.Array in
-        let b = global_arrays before (kinds_of p.globals) here.globals here.names_hold in
+        let b = global_arrays (first_name p) (kinds_of p.globals) here.globals here.names_hold in
         omega (arith, l, r, b)
 
     pub iterators_left : live_iterators s ≡ 0
     iterators_left =
         let l = iterators_are s.names here.numbers in
         let i = counted_left sort.Iterator in
-        let b = global_iterators before (kinds_of p.globals) here.globals here.names_hold in
+        let b = global_iterators (first_name p) (kinds_of p.globals) here.globals here.names_hold in
         omega (arith, l, i, b)

@@ -70,6 +70,6 @@ module _ (p : Program) where
       let fit = all_fit ns m few parts in
       let limits = ns ++ m ∷ [] in
       let v = values_alive p c s here in
-      let pending = callers_few limits fit here.waiting c.callers here.waits in
-      let w = values_few limits p here.waiting c.callers here.waits pending in
+      let pending = callers_few limits fit here.held.waiting c.callers here.called_by.waits in
+      let w = values_few limits p here.held.waiting c.callers here.called_by.waits pending in
       record { pending = pending; few_values = omega (arith, v, w) }

@@ -32,7 +32,7 @@ use Rattle.agreement.proofs.RefinedLemmas.Running.{steps_as, taken_as}
 use Rattle.agreement.specs.Modules.ValueAgreement.{ValueAgreement}
 use Rattle.agreement.proofs.ModulesLemmas.Stores.{InStore, store_there}
 use Rattle.agreement.specs.Places.Assigned.{IsAssigned, IsPending, Somewhere}
-use Rattle.agreement.specs.Places.NoLeaks.{Reached, begins_statement}
+use Rattle.agreement.specs.Places.NoLeaks.{Reached, begins_statement, first_name}
 use Rattle.agreement.proofs.PlacesLemmas.Assigning.{Asks, Told, step_told}
 use Rattle.agreement.proofs.PlacesLemmas.Keeping.{alive, begins_same, no_look, settled_nop, tidy_there}
 
@@ -49,7 +49,7 @@ behind_ranges zero ks x y q e = let z : y ≡ x = omega (arith, q) in ap (λ n. 
 behind_ranges (suc r) ks x zero q e = absurd (omega (arith, q))
 behind_ranges (suc r) ks x (suc y) q e = behind_ranges r ks x y (omega (arith, q)) e
 
-first_words : (p : Program) (x y : ℕ) → y ≡ suc (suc (suc p.ranges)) + x → is_bare_handle (kinds_of p.globals) x ≡ true → is_word (cell_at (first_globals p) y) ≡ true
+first_words : (p : Program) (x y : ℕ) → y ≡ first_name p + x → is_bare_handle (kinds_of p.globals) x ≡ true → is_word (cell_at (first_globals p) y) ≡ true
 first_words p x zero q e = absurd (omega (arith, q))
 first_words p x (suc zero) q e = absurd (omega (arith, q))
 first_words p x (suc (suc zero)) q e = absurd (omega (arith, q))
@@ -137,7 +137,7 @@ module _ (p : Program) (T : ℕ → Type 0) where
   first_told set =
       let f = main_callee p in
       store_there (Told u T) [] [] [] (zeros f.locals) [] f.body (record { globals = first_globals p; host = host_at_start set; assigning = None })
-      (record { assigning = λ i e. cc; handles = λ i b e. absurd (let t : true ≡ false = sym (first_words p (i + i) (suc (suc (suc p.ranges)) + (i + i)) refl b) ∙ e in cc) })
+      (record { assigning = λ i e. cc; handles = λ i b e. absurd (let t : true ≡ false = sym (first_words p (i + i) (first_name p + (i + i)) refl b) ∙ e in cc) })
 
   abbrev NoHandle : real.Conf → ℕ → Type 0
   NoHandle c i = slice_get c.globals (handle_global p.ranges i) ≡ Some (I32 minus_one)

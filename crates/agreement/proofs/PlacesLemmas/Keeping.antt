@@ -133,31 +133,36 @@ module _ (p : Program) where
       let i3 = eqb-true (iterators_in L) (loops_walked K) walks.1 in
       let i4 = walks_same p (arrays_made G.host) s.names K c.frame.labels a.rest.labels in
       record {
-        operands = none;
-        arguments = ap (λ (z : HostState). z.arguments) a.rest.host ∙ none_empty G.host.arguments split.0;
-        globals = held G.globals;
-        own = held L;
-        waiting = held_waiting F;
-        numbers = numbers_stand made s.names tables a.rest.arrays;
-        once = λ t q.
-            let x = holders_same t q L c.frame.locals in
-            let y = holders_same t q G.globals c.globals in
-            let z = waiting_same t q F c.callers in
-            let e = once t q in
-            omega (arith, x, y, z, e);
-        each_global = held_each made s.names G.globals c.globals a.rest.globals;
-        names_hold = names;
-        function = own.0;
-        statement = code;
-        is_statement = place;
-        at_work = same;
-        each_local = held_each made s.names L c.frame.locals a.rest.locals;
-        locals_hold = subst (λ k. LocalsHold k (held L)) (sym own.2) locals;
-        walked = i1 ∙ (i3 ∙ sym i4);
-        waits = callers;
-        is_called = chain;
-        bare = subst (λ k. BareParameters k c.frame.locals) (sym own.2) (parameters_bare (arrays_made G.host) s.names ks L c.frame.locals a.rest.locals walks.0);
-        marked = names_marked (arrays_made G.host) s.names u.names (drop u.before G.globals) (drop u.before c.globals) (words_behind (arrays_made G.host) s.names u.before G.globals c.globals a.rest.globals) named.1;
+        at = record {
+          function = own.0;
+          statement = code;
+          is_statement = place;
+          at_work = same;
+          operands = none;
+          arguments = ap (λ (z : HostState). z.arguments) a.rest.host ∙ none_empty G.host.arguments split.0;
+        };
+        held = record {
+          globals = held G.globals;
+          own = held L;
+          waiting = held_waiting F;
+          each_global = held_each made s.names G.globals c.globals a.rest.globals;
+          each_local = held_each made s.names L c.frame.locals a.rest.locals;
+          numbers = numbers_stand made s.names tables a.rest.arrays;
+          once = λ t q.
+              let x = holders_same t q L c.frame.locals in
+              let y = holders_same t q G.globals c.globals in
+              let z = waiting_same t q F c.callers in
+              let e = once t q in
+              omega (arith, x, y, z, e);
+        };
+        by_kinds = record {
+          names_hold = names;
+          marked = names_marked (arrays_made G.host) s.names u.names (drop u.before G.globals) (drop u.before c.globals) (words_behind (arrays_made G.host) s.names u.before G.globals c.globals a.rest.globals) named.1;
+          locals_hold = subst (λ k. LocalsHold k (held L)) (sym own.2) locals;
+          bare = subst (λ k. BareParameters k c.frame.locals) (sym own.2) (parameters_bare (arrays_made G.host) s.names ks L c.frame.locals a.rest.locals walks.0);
+          walked = i1 ∙ (i3 ∙ sym i4);
+        };
+        called_by = record { waits = callers; is_called = chain };
       }
 
   -- where `main` has returned

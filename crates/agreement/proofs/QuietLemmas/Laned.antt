@@ -20,7 +20,7 @@ use Rattle.lower_model.proofs.CodeFollows.{code_follows}
 use Rattle.agreement.proofs.ModulesLemmas.Agreeing as Agreeing
 use Rattle.agreement.proofs.ModulesLemmas.Modules.{agreement}
 use Rattle.agreement.specs.Places.Assigned.{IsAssigned}
-use Rattle.agreement.specs.Places.NoLeaks.{AtStatement, Reached, begins_statement}
+use Rattle.agreement.specs.Places.NoLeaks.{AtStatement, Reached, begins_statement, first_name}
 use Rattle.agreement.proofs.PlacesLemmas.Handles.{unassigned}
 use Rattle.agreement.proofs.PlacesLemmas.Marks.{bare_at, unmarked_at}
 use Rattle.agreement.specs.Quiet.Laned.{AtLaned, AtNumeric, IsLaned, IsNext}
@@ -46,15 +46,15 @@ abbrev pub NoHandles : Program → Conf → (ℕ → Type 0) → Type 0
 NoHandles p c Assigned = (i : ℕ) → has_kind (kinds_of p.globals) i Unboxed ≡ true → (Assigned i → ⊥) → slice_get c.globals (handle_global p.ranges i) ≡ Some (I32 minus_one)
 
 module _ (p : Program) (c : Conf) (s : HostState) (here : AtStatement p c s) (Assigned : ℕ → Type 0) (no_handles : NoHandles p c Assigned) where
-  pub no_text : (b : Bases) → b.parameters ≡ length here.function.kinds → (x : Slot) → IsLaned p here.function.kinds Assigned x → HasNoText p.ranges b c x
+  pub no_text : (b : Bases) → b.parameters ≡ length here.at.function.kinds → (x : Slot) → IsLaned p here.at.function.kinds Assigned x → HasNoText p.ranges b c x
   no_text b e (Global true i) h =
-      let n : ℕ = suc (suc (suc p.ranges)) in
+      let n : ℕ = first_name p in
       let none = no_handles i h.0 h.1 in (
         none,
-        λ z. unmarked_at (kinds_of p.globals) (drop n c.globals) here.marked i (i + i) refl h.0 (behind n c.globals (i + i) (handle_global p.ranges i) (omega arith) ∙ none)
+        λ z. unmarked_at (kinds_of p.globals) (drop n c.globals) here.by_kinds.marked i (i + i) refl h.0 (behind n c.globals (i + i) (handle_global p.ranges i) (omega arith) ∙ none)
             (behind n c.globals (suc (i + i)) (number_global p.ranges i) (omega arith) ∙ z),
       )
-  no_text b e (Parameter true i) h = let l = kind_below here.function.kinds i Unboxed h in (omega (arith, l, e), bare_at here.function.kinds c.frame.locals here.bare i h)
+  no_text b e (Parameter true i) h = let l = kind_below here.at.function.kinds i Unboxed h in (omega (arith, l, e), bare_at here.at.function.kinds c.frame.locals here.by_kinds.bare i h)
   no_text b e (Global false i) h = absurd h
   no_text b e (Parameter false i) h = absurd h
 
@@ -73,7 +73,7 @@ module _ (p : Program) (c : Conf) (s : HostState) (here : AtStatement p c s) (As
     after = a.after;
     code = a.code;
     target_is = no_text a.bases a.parameters a.target a.target_is;
-    sum = sum_weaker (IsLaned p here.function.kinds Assigned) (HasNoText p.ranges a.bases c) (no_text a.bases a.parameters) a.expression a.sum;
+    sum = sum_weaker (IsLaned p here.at.function.kinds Assigned) (HasNoText p.ranges a.bases c) (no_text a.bases a.parameters) a.expression a.sum;
   }
 
   pub next_is : (a : AtLaned p c s here Assigned) (there : Conf) → AtNext p c (at_sum a) there → IsNext p c a.bases (Then a.next a.further) a.iterators a.out a.breaking a.continuing a.after there
@@ -83,7 +83,7 @@ module _ (p : Program) (c : Conf) (s : HostState) (here : AtStatement p c s) (As
 module _ (p : Program) (c : Conf) (s : HostState) (here : AtStatement p c s) (Assigned : ℕ → Type 0) where
   abbrev pub at_laned : AtNumeric p c s here Assigned → AtLaned p c s here Assigned
   at_laned a =
-      let w = assigned (IsLaned p here.function.kinds Assigned) a.globals_lanes a.parameters_lanes a.texts a.scope a.target a.expression a.target_is a.numeric in
+      let w = assigned (IsLaned p here.at.function.kinds Assigned) a.globals_lanes a.parameters_lanes a.texts a.scope a.target a.expression a.target_is a.numeric in
       record {
         bases = a.bases;
         parameters = a.parameters;

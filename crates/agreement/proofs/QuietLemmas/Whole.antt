@@ -129,7 +129,7 @@ module _ (p : Program) (agree : Agreement (mid_run_in p) (module_of p)) (typed :
     begins = refl
 
     clear : c.frame.values ≡ []
-    clear = (statement p values job input outside m c s reached sorted (ap begins_statement a.code ∙ begins)).operands
+    clear = (statement p values job input outside m c s reached sorted (ap begins_statement a.code ∙ begins)).at.operands
 
     flows : Flows m.program There (called_imports p) c c.frame.labels c.globals c.frame.locals [] here
     flows =

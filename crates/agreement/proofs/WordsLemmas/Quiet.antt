@@ -50,6 +50,6 @@ at_numeric p c s here A B less a = record {
   continuing = a.continuing;
   after = a.after;
   code = a.code;
-  target_is = name_so p here.function.kinds A B less a.globals_lanes a.parameters_lanes _ a.target_is;
-  numeric = numeric_so p here.function.kinds A B less a.globals_lanes a.parameters_lanes a.scope a.expression a.numeric;
+  target_is = name_so p here.at.function.kinds A B less a.globals_lanes a.parameters_lanes _ a.target_is;
+  numeric = numeric_so p here.at.function.kinds A B less a.globals_lanes a.parameters_lanes a.scope a.expression a.numeric;
 }

@@ -46,7 +46,7 @@ use Rattle.agreement.proofs.RefinedLemmas.Running.{steps_as}
 use Rattle.agreement.specs.Modules.ValueAgreement.{ValueAgreement}
 use Rattle.agreement.proofs.ModulesLemmas.Stores.{InStore, store_there}
 use Rattle.agreement.specs.Places.Assigned.{IsAssigned, IsOperand, IsOption, IsWord, Somewhere}
-use Rattle.agreement.specs.Places.NoLeaks.{Reached}
+use Rattle.agreement.specs.Places.NoLeaks.{Reached, first_name}
 use Rattle.agreement.proofs.PlacesLemmas.FromWords.{from_words}
 use Rattle.agreement.specs.Words.Naming.{program_names, routines_name, steps_name}
 use Rattle.agreement.specs.Words.Words.{Assigns, AssignsName, IsArgument}
@@ -90,15 +90,15 @@ behind_ranges (suc r) ks (suc x) l = behind_ranges r ks x (omega (arith, l))
 abbrev sizes_of : Program → ℕ → Option ℕ
 sizes_of p f = size_in p.routines f
 
-globals_other : (p : Program) (x : ℕ) → is_name (suc (suc (suc p.ranges))) x ≡ true → is_other (cell_at (first_globals p) x) ≡ true
-globals_other p zero e = let l = leb-true (suc (suc (suc p.ranges))) zero e in absurd (omega (arith, l))
-globals_other p (suc zero) e = let l = leb-true (suc (suc (suc p.ranges))) 1 e in absurd (omega (arith, l))
+globals_other : (p : Program) (x : ℕ) → is_name (first_name p) x ≡ true → is_other (cell_at (first_globals p) x) ≡ true
+globals_other p zero e = let l = leb-true (first_name p) zero e in absurd (omega (arith, l))
+globals_other p (suc zero) e = let l = leb-true (first_name p) 1 e in absurd (omega (arith, l))
 globals_other p (suc (suc zero)) e = refl
 globals_other p (suc (suc (suc x))) e = by (nat_eq (suc (suc (suc x))) text_global) refl e
   where
-    by : (z : Bool) → nat_eq (suc (suc (suc x))) text_global ≡ z → z || nat_le (suc (suc (suc p.ranges))) (suc (suc (suc x))) ≡ true → is_other (cell_at (first_globals p) (suc (suc (suc x)))) ≡ true
+    by : (z : Bool) → nat_eq (suc (suc (suc x))) text_global ≡ z → z || nat_le (first_name p) (suc (suc (suc x))) ≡ true → is_other (cell_at (first_globals p) (suc (suc (suc x)))) ≡ true
     by true h q = let m = eqb-true (suc (suc (suc x))) text_global h in absurd (omega (arith, m))
-    by false h q = let l = leb-true (suc (suc (suc p.ranges))) (suc (suc (suc x))) q in behind_ranges p.ranges (kinds_of p.globals) x (omega (arith, l))
+    by false h q = let l = leb-true (first_name p) (suc (suc (suc x))) q in behind_ranges p.ranges (kinds_of p.globals) x (omega (arith, l))
 
 module _ (tells : Bool) (p : Program) (argv : Pairs) (told : List Telling) where
   abbrev u : Code

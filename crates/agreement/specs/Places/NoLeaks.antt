@@ -77,6 +77,10 @@ holders_waiting s q _ _ = 0
 
 -- What globals hold: those of the module and of ranges nothing; then each name has one for a handle, or an array, and one for a number.
 
+-- the first global of a name, behind three of the module's own and those of the ranges
+abbrev pub first_name : Program → ℕ
+first_name p = suc (suc (suc p.ranges))
+
 abbrev pub NamesHold : (Kind → Option Sort → Type 0) → List Kind → List (Option Sort) → Type 0
 NamesHold P [] [] = Unit {0}
 NamesHold P (k ∷ ks) (o ∷ (n ∷ os)) = P k o × (n ≡ None) × NamesHold P ks os
@@ -222,32 +226,47 @@ NamesMarked [] ws = Unit {0}
 NamesMarked (k ∷ ks) (h ∷ (n ∷ ws)) = IsMarked k h n × NamesMarked ks ws
 NamesMarked (k ∷ ks) _ = ⊥
 
--- WHERE A STATEMENT BEGINS: the code at work is that of a statement of a function, with what comes after it, and that is the function that the caller
--- that waits has called. Nothing is on the operands or the argument list; each number that stands for something is in one place, and what is in none
--- stands for nothing; names hold what their kinds say, and so do the parameters of the function at work, whose other locals hold nothing but an iterator
--- for each loop over keys that is walked. Callers that wait hold their parameters, operands that are pending, and an iterator for each such loop. So at
--- most so much is alive: the theorem `little_is_alive`.
-pub record AtStatement (p : Program) (c : Conf) (s : HostState) : Type 0 where
-  pub operands : c.frame.values ≡ []
-  pub arguments : s.arguments ≡ []
-  pub globals : List (Option Sort)
-  pub own : List (Option Sort)
-  pub waiting : List (List (Option Sort))
-  pub numbers : NumbersStand s.names
-  pub once : (t : Sort) (q : ℕ) → holders t q own c.frame.locals + (holders t q globals c.globals + holders_waiting t q waiting c.callers) ≡ wanted s.names t q
-  pub each_global : EachPlace globals c.globals
-  pub names_hold : GlobalsHold NameHolds (suc (suc (suc p.ranges))) (kinds_of p.globals) globals
+-- WHERE A STATEMENT BEGINS, in four records. The code at work is that of a statement of a function, with what comes after it; nothing is on the operands
+-- or the argument list.
+pub record AtWork (p : Program) (c : Conf) (s : HostState) : Type 0 where
   pub function : Callee
   pub statement : Instructions
   pub is_statement : Contains (starts_in function.body) statement
   pub at_work : c.frame.code ≡ renumbered (called_imports p) statement
+  pub operands : c.frame.values ≡ []
+  pub arguments : s.arguments ≡ []
+
+-- What places hold: each number that stands for something is in one of them, and what is in none stands for nothing.
+pub record Held (c : Conf) (s : HostState) : Type 0 where
+  pub globals : List (Option Sort)
+  pub own : List (Option Sort)
+  pub waiting : List (List (Option Sort))
+  pub each_global : EachPlace globals c.globals
   pub each_local : EachPlace own c.frame.locals
-  pub locals_hold : LocalsHold function.kinds own
+  pub numbers : NumbersStand s.names
+  pub once : (t : Sort) (q : ℕ) → holders t q own c.frame.locals + (holders t q globals c.globals + holders_waiting t q waiting c.callers) ≡ wanted s.names t q
+
+-- Names hold what their kinds say, and so do the parameters of the function at work, whose other locals hold nothing but an iterator for each loop over
+-- keys that is walked.
+pub record ByKinds (p : Program) (f : Callee) (globals own : List (Option Sort)) (c : Conf) : Type 0 where
+  pub names_hold : GlobalsHold NameHolds (first_name p) (kinds_of p.globals) globals
+  pub marked : NamesMarked (kinds_of p.globals) (drop (first_name p) c.globals)
+  pub locals_hold : LocalsHold f.kinds own
+  pub bare : BareParameters f.kinds c.frame.locals
   pub walked : count sort.Iterator own ≡ walks (numbers_of p) c.frame.labels
-  pub waits : CallersWait p waiting c.callers
-  pub is_called : IsCalled p function waiting c.callers waits
-  pub bare : BareParameters function.kinds c.frame.locals
-  pub marked : NamesMarked (kinds_of p.globals) (drop (suc (suc (suc p.ranges))) c.globals)
+
+-- Callers that wait hold their parameters, operands that are pending, and an iterator for each such loop; the function at work is the one that the caller
+-- that waits has called.
+pub record CalledBy (p : Program) (f : Callee) (waiting : List (List (Option Sort))) (rs : List CallerForm) : Type 0 where
+  pub waits : CallersWait p waiting rs
+  pub is_called : IsCalled p f waiting rs waits
+
+-- All of it. So little is alive: the theorem `little_is_alive` says how much.
+pub record AtStatement (p : Program) (c : Conf) (s : HostState) : Type 0 where
+  pub at : AtWork p c s
+  pub held : Held c s
+  pub by_kinds : ByKinds p at.function held.globals held.own c
+  pub called_by : CalledBy p at.function held.waiting c.callers
 
 -- WHERE `main` HAS RETURNED: names alone hold something. So at most so much is alive: the theorem `names_alone_are_alive`.
 pub record AtReturn (p : Program) (c : Conf) (s : HostState) : Type 0 where
@@ -255,8 +274,8 @@ pub record AtReturn (p : Program) (c : Conf) (s : HostState) : Type 0 where
   pub numbers : NumbersStand s.names
   pub once : (t : Sort) (q : ℕ) → holders t q globals c.globals ≡ wanted s.names t q
   pub each_global : EachPlace globals c.globals
-  pub names_hold : GlobalsHold NameMayHold (suc (suc (suc p.ranges))) (kinds_of p.globals) globals
-  pub exact : s.fault ≡ None → GlobalsHold NameHolds (suc (suc (suc p.ranges))) (kinds_of p.globals) globals
+  pub names_hold : GlobalsHold NameMayHold (first_name p) (kinds_of p.globals) globals
+  pub exact : s.fault ≡ None → GlobalsHold NameHolds (first_name p) (kinds_of p.globals) globals
 
 -- each statement begins with a `nop`, and so does the test of a `do` loop
 abbrev pub begins_statement : Instructions → Bool

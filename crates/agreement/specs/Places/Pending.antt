@@ -28,5 +28,5 @@ values_within limits p (os ∷ rest) (r ∷ rs) h few = (boxed h.0.function.kind
 
 -- WHERE A STATEMENT BEGINS callers have few operands pending; so at most so many values are alive.
 pub record FewAlive (limits : List ℕ) (p : Program) (c : Conf) (s : HostState) (here : AtStatement p c s) : Type 0 where
-  pub pending : AllFewPending limits p here.waiting c.callers here.waits
-  pub few_values : live_values s ≤ scalars (kinds_of p.globals) + (boxed here.function.kinds + values_within limits p here.waiting c.callers here.waits pending)
+  pub pending : AllFewPending limits p here.held.waiting c.callers here.called_by.waits
+  pub few_values : live_values s ≤ scalars (kinds_of p.globals) + (boxed here.at.function.kinds + values_within limits p here.held.waiting c.callers here.called_by.waits pending)

@@ -22,7 +22,7 @@ IsLaned p kinds Assigned (Parameter false i) = ⊥
 -- where such a statement begins, after which another one comes in its block
 pub record AtLaned (p : Program) (c : Conf) (s : HostState) (here : AtStatement p c s) (Assigned : ℕ → Type 0) : Type 0 where
   pub bases : Bases
-  pub parameters : bases.parameters ≡ length here.function.kinds
+  pub parameters : bases.parameters ≡ length here.at.function.kinds
   pub target : Slot
   pub expression : Code
   pub next : Step
@@ -33,8 +33,8 @@ pub record AtLaned (p : Program) (c : Conf) (s : HostState) (here : AtStatement 
   pub continuing : ℕ
   pub after : Instructions
   pub code : c.frame.code ≡ code_in p bases (Then (Eval (Set target expression)) (Then next further)) iterators out breaking continuing after
-  pub target_is : IsLaned p here.function.kinds Assigned target
-  pub sum : IsSum (IsLaned p here.function.kinds Assigned) expression
+  pub target_is : IsLaned p here.at.function.kinds Assigned target
+  pub sum : IsSum (IsLaned p here.at.function.kinds Assigned) expression
 
 -- the next statement, in the same call of the function, within the same labels
 pub record IsNext (p : Program) (c : Conf) (b : Bases) (ss : Steps) (u d bk ct : ℕ) (k : Instructions) (there : Conf) : Type 0 where
@@ -47,7 +47,7 @@ pub record IsNext (p : Program) (c : Conf) (b : Bases) (ss : Steps) (u d bk ct :
 -- `+`, `-` and `*` alone; x and each name of t is unboxed, and the command line has assigned to none of them.
 pub record AtNumeric (p : Program) (c : Conf) (s : HostState) (here : AtStatement p c s) (Assigned : ℕ → Type 0) : Type 0 where
   pub bases : Bases
-  pub parameters : bases.parameters ≡ length here.function.kinds
+  pub parameters : bases.parameters ≡ length here.at.function.kinds
   pub texts : List (List ℕ)
   pub scope : Scope
   pub globals_lanes : List Kind
@@ -63,5 +63,5 @@ pub record AtNumeric (p : Program) (c : Conf) (s : HostState) (here : AtStatemen
   pub after : Instructions
   pub code : c.frame.code ≡ code_in p bases (Then (assignment texts scope globals_lanes parameters_lanes target expression)
       (Then next further)) iterators out breaking continuing after
-  pub target_is : IsSo (IsLaned p here.function.kinds Assigned) globals_lanes parameters_lanes (variable_of scope target)
-  pub numeric : IsNumeric (IsSo (IsLaned p here.function.kinds Assigned) globals_lanes parameters_lanes) scope expression
+  pub target_is : IsSo (IsLaned p here.at.function.kinds Assigned) globals_lanes parameters_lanes (variable_of scope target)
+  pub numeric : IsNumeric (IsSo (IsLaned p here.at.function.kinds Assigned) globals_lanes parameters_lanes) scope expression

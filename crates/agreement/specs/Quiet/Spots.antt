@@ -47,7 +47,7 @@ pub record AtAssignment (script : Resolved) (c : Conf) (s : HostState) (here : A
   pub next : Stmt
   pub further : Stmts
   pub at_work : c.frame.code ≡ module_place script home (Of (assigns target expression) Whole (Before (And next further) ∷ around))
-  pub own : here.function.kinds ≡ kinds_at script home
+  pub own : here.at.function.kinds ≡ kinds_at script home
   pub target_is : IsNumberName script home Assigned (variable_of (scope_at script home) target)
   pub numeric : IsNumeric (IsNumberName script home Assigned) (scope_at script home) expression
 

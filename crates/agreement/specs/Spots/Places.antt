@@ -1,6 +1,11 @@
 -- The place that each spot of a script has in the script's module: the code that the module has for the step that is begun there, with what comes
 -- after it in its block. The steps are those of the script's translation, with constants computed and names in their lanes. `module_of` has this code
 -- where it has the step (lower_model's `step_emitted`), so this page goes from the outside to the inside of a statement as it does.
+--
+-- How much of it you have to believe: no position, and nothing of what comes after a step. By the theorem `spots_are_in_order` the place of the n-th spot of
+-- a function is the n-th `nop` of its code, and by the field `passes` a run has this code where it passes the spot. A wrong place would refute the first, and
+-- the second once a run passes the spot. They do not say that a place has its own statement's code: read that in `part_place` and `range_place`. The field
+-- `quiet` also names `final_program`, `lanes_of` and `scope_at`.
 use Rattle.std.specs.Prelude.{ℕ, zero, suc, ◌+◌, true, false, if◌then◌else◌, List, [], ◌∷◌, Option, Some, None, is_some}
 use Rattle.wasm_types.specs.Syntax.{Instructions, Done}
 use Rattle.wasm_types.specs.declared.instr.Simple.TheVariants.{Br}

@@ -1,34 +1,15 @@
-use Rattle.std.proofs.Common.{◌∙◌, ap, map, subst}
-use Rattle.std.proofs.lemmas.Result.{IfErr-weaker, IfOk-weaker}
-use Rattle.clap.specs.Words.{App, FailsBy, fault_of, is_simple, is_simple_and_free, matches_of, subcommand_of, takes}
-use Rattle.command_line.specs.Line.{line_app}
-use Rattle.command_line.proofs.Causes.{caused, faultless}
-use Rattle.command_line.proofs.LineLemmas.{line_is_free, line_is_simple}
+use Rattle.std.proofs.Common.{◌∙◌, map, subst, sym}
+use Rattle.command_line.specs.Line.{line_for}
+use Rattle.command_line.specs.declared.Named.{Named}
+use Rattle.command_line.proofs.NamedLemmas.{SameParse, same}
 use Rattle.command_line.proofs.matches_of_line.Goals as goal
 
-pub returns-clause-ok : goal.returns-clause-ok
-returns-clause-ok c =
-    let parse = c.try_get_matches_from in
-    IfOk-weaker parse.result _ _ (λ m h. let same = h (ap is_simple c.in_ok-command.ensures ∙ line_is_simple) in (
-      same.0 ∙ ap (λ (a : App). matches_of a (map (λ s. s.now) c.args.words.now)) c.in_ok-command.ensures,
-      same.1 ∙ ap (λ (a : App). subcommand_of a (map (λ s. s.now) c.args.words.now)) c.in_ok-command.ensures,
-    )) parse.ensures.matches
+pub returns-in-Ok-clause-ok : goal.returns-in-Ok-clause-ok
+returns-in-Ok-clause-ok c =
+    let is = subst (λ (n : Named). SameParse (line_for n) (map (λ s. s.now) c.args.words.now)) (sym c.named_in.ensures) (same c.args.words.now) in
+    (c.in-Ok.ensures.ok.0 ∙ is.matches, c.in-Ok.ensures.ok.1 ∙ is.subcommand)
 
-pub returns-clause-err : goal.returns-clause-err
-returns-clause-err c =
-    let parse = c.try_get_matches_from in
-    IfErr-weaker parse.result _ _ (λ e h taken. h (ap (λ (a : App). takes a (map (λ s. s.now) c.args.words.now)) c.in_ok-command.ensures ∙ taken)) parse.ensures.passes
-
-pub returns-clause-faultless : goal.returns-clause-faultless
-returns-clause-faultless c =
-    let parse = c.try_get_matches_from in
-    faultless (fault_of line_app (map (λ s. s.now) c.args.words.now)) parse.result
-    (subst (λ (a : App). FailsBy (fault_of a (map (λ s. s.now) c.args.words.now)) parse.result) c.in_ok-command.ensures
-    (parse.ensures.kinds (ap is_simple_and_free c.in_ok-command.ensures ∙ line_is_free)))
-
-pub returns-clause-cause : goal.returns-clause-cause
-returns-clause-cause c =
-    let parse = c.try_get_matches_from in
-    caused (fault_of line_app (map (λ s. s.now) c.args.words.now)) parse.result
-    (subst (λ (a : App). FailsBy (fault_of a (map (λ s. s.now) c.args.words.now)) parse.result) c.in_ok-command.ensures
-    (parse.ensures.kinds (ap is_simple_and_free c.in_ok-command.ensures ∙ line_is_free)))
+pub returns-in-Ok-clause-faultless : goal.returns-in-Ok-clause-faultless
+returns-in-Ok-clause-faultless c =
+    let is = subst (λ (n : Named). SameParse (line_for n) (map (λ s. s.now) c.args.words.now)) (sym c.named_in.ensures) (same c.args.words.now) in
+    sym is.fault ∙ c.in-Ok.ensures.kinds

@@ -1,7 +1,7 @@
 use Rattle.std.proofs.Common.{List, map, false, None, ap, ◌∙◌}
 use Rattle.std.proofs.lemmas.Result.{err_from_is_err_and}
 use Rattle.awk_tokens.specs.declared.token.Token.{Token}
-use Rattle.awk_tokens.specs.Cutting.{without, with_ends}
+use Rattle.awk_tokens.specs.Rules.{rule_two, rule_three}
 use Rattle.awk_tokens.specs.Views.{spelled}
 use Rattle.awk_tokens.proofs.Whole.{found_tokens, refused_or}
 use Rattle.awk_tokens.proofs.cut.tokens.Goals as goal
@@ -13,5 +13,5 @@ returns-in_err-pieces-clause-refused c =
 
 pub returns-clause-found : goal.returns-clause-found
 returns-clause-found c = found_tokens c.args.script.now _ _ _ c.in_ok-pieces.ensures.found
-    (c.in_ok-kept.ensures ∙ ap (λ (ts : List Token). without false (map spelled ts)) c.deref.ensures.value)
-    (c.in_ok-ended.ensures ∙ ap (λ (ts : List Token). with_ends None (map spelled ts)) c.deref-2.ensures.value)
+    (c.in_ok-kept.ensures ∙ ap (λ (ts : List Token). rule_two false (map spelled ts)) c.deref.ensures.value)
+    (c.in_ok-ended.ensures ∙ ap (λ (ts : List Token). rule_three None (map spelled ts)) c.deref-2.ensures.value)
