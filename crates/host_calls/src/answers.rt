@@ -8,13 +8,20 @@ ghost use Rattle.host_values.specs.TableCalls.{left_by_call};
 ghost use Rattle.host_tables.specs.Answers.{told_as};
 
 use crate::host::Host;
-use host_imports::{Import, VariadicImport};
+use host_imports::Import;
 use host_tables::{refusal, told};
 use host_values::{Evaluated, Refusal, carry_out};
-use sem_primitives::Primitive;
 use wasm_model::HostAnswer;
-use wasm_store::Word;
+use wasm_store::{TrapKind, Word};
 use world_core::World;
+
+/// What is answered to a number that no import has.
+#[inline(never)]
+fn unknown() -> HostAnswer
+    ensures { result ≡ HostAnswer.Trap TrapKind.BadArgument }
+{
+    HostAnswer::Trap(TrapKind::BadArgument)
+}
 
 /// What is answered once a fault is kept. It stands apart, so that the ways of the other calls hand their answers on as they are.
 #[inline(never)]
@@ -71,69 +78,73 @@ impl<W: World> Host<W> {
 
     /// Answers a call of an import. Once a fault is kept every import but those that let something go only refuses. It stands apart, so that the machine's
     /// loop has one call for all imports. The words come first, so that they stand where each import takes them.
-    #[inline(never)]
-    pub(crate) fn answer(&mut self, words: &[Word], memory: &[u8], import: Import) -> HostAnswer
-        ensures { Means W.is_modelled W.state W.did import self.old words.now memory.now result
-            self.new }
+    #[inline(always)]
+    pub(crate) fn answer(&mut self, words: &[Word], memory: &[u8], number: u32) -> HostAnswer
     {
-        match import {
-            _ if self.tables.fault().is_some() => self.answer_faulted(words, import),
-            Import::Drop => self.on_drop(words),
-            Import::Arg => self.on_arg(words),
-            Import::IterFree => self.on_iter_free(words),
-            Import::FreeArray => self.on_free_array(words),
-            Import::Variadic(VariadicImport::Sprintf) => self.on_sprintf(words),
-            Import::Variadic(VariadicImport::Print) => self.on_print(words),
-            Import::Variadic(VariadicImport::Printf) => self.on_printf(words),
-            Import::OfPrimitive(Primitive::Num) => self.on_num(words),
-            Import::OfPrimitive(Primitive::Lit) => self.on_lit(words, memory),
-            Import::OfPrimitive(Primitive::Uninit) => self.on_uninit(words),
-            Import::OfPrimitive(Primitive::Dup) => self.on_dup(words),
-            Import::OfPrimitive(Primitive::ToNum) => self.on_to_num(words),
-            Import::OfPrimitive(Primitive::IntOf) => self.on_int_of(words),
-            Import::OfPrimitive(Primitive::Truth) => self.on_truth(words),
-            Import::OfPrimitive(Primitive::Compare) => self.on_compare(words),
-            Import::OfPrimitive(Primitive::Concat) => self.on_concat(words),
-            Import::OfPrimitive(Primitive::Pow) => self.on_pow(words),
-            Import::OfPrimitive(Primitive::Fail) => self.on_fail(words),
-            Import::OfPrimitive(Primitive::GetSpecial) => self.on_get_special(words),
-            Import::OfPrimitive(Primitive::SetSpecial) => self.on_set_special(words),
-            Import::OfPrimitive(Primitive::Field) => self.on_field(words),
-            Import::OfPrimitive(Primitive::SetField) => self.on_set_field(words),
-            Import::OfPrimitive(Primitive::Length) => self.on_length(words),
-            Import::OfPrimitive(Primitive::Matches) => self.on_matches(words),
-            Import::OfPrimitive(Primitive::Match) => self.on_match(words),
-            Import::OfPrimitive(Primitive::Sub) => self.on_sub(words),
-            Import::OfPrimitive(Primitive::SubResult) => self.on_sub_result(words),
-            Import::OfPrimitive(Primitive::Substr) => self.on_substr(words),
-            Import::OfPrimitive(Primitive::SubstrFrom) => self.on_substr_from(words),
-            Import::OfPrimitive(Primitive::Index) => self.on_index(words),
-            Import::OfPrimitive(Primitive::Lower) => self.on_lower(words),
-            Import::OfPrimitive(Primitive::Upper) => self.on_upper(words),
-            Import::OfPrimitive(Primitive::Join) => self.on_join(words),
-            Import::OfPrimitive(Primitive::Split) => self.on_split(words),
-            Import::OfPrimitive(Primitive::NewArray) => self.on_new_array(words),
-            Import::OfPrimitive(Primitive::Elem) => self.on_elem(words),
-            Import::OfPrimitive(Primitive::SetElem) => self.on_set_elem(words),
-            Import::OfPrimitive(Primitive::Has) => self.on_has(words),
-            Import::OfPrimitive(Primitive::Delete) => self.on_delete(words),
-            Import::OfPrimitive(Primitive::Clear) => self.on_clear(words),
-            Import::OfPrimitive(Primitive::Iter) => self.on_iter(words),
-            Import::OfPrimitive(Primitive::IterNext) => self.on_iter_next(words),
-            Import::OfPrimitive(Primitive::NextMain) => self.on_next_main(words),
-            Import::OfPrimitive(Primitive::Getline) => self.on_getline(words),
-            Import::OfPrimitive(Primitive::GetlineVar) => self.on_getline_var(words),
-            Import::OfPrimitive(Primitive::GetlineFile) => self.on_getline_file(words),
-            Import::OfPrimitive(Primitive::GetlineVarFile) => self.on_getline_var_file(words),
-            Import::OfPrimitive(Primitive::Line) => self.on_line(words),
-            Import::OfPrimitive(Primitive::Declare) => self.on_declare(words, memory),
-            Import::OfPrimitive(Primitive::StartAssign) => self.on_start_assign(words),
-            Import::OfPrimitive(Primitive::PendingName) => self.on_pending_name(words),
-            Import::OfPrimitive(Primitive::PendingValue) => self.on_pending_value(words),
-            Import::OfPrimitive(Primitive::BeginEnd) => self.on_begin_end(words),
-            Import::OfPrimitive(Primitive::Close) => self.on_close(words),
-            Import::OfPrimitive(Primitive::NextFile) => self.on_next_file(words),
-            Import::OfPrimitive(Primitive::Flush) => self.on_flush(words),
+        if self.tables.fault().is_some() {
+            return match Import::of_number(number) {
+                Some(import) => self.answer_faulted(words, import),
+                None => unknown(),
+            };
+        }
+        match number {
+            0 => self.on_num(words),
+            1 => self.on_lit(words, memory),
+            2 => self.on_uninit(words),
+            3 => self.on_dup(words),
+            4 => self.on_to_num(words),
+            5 => self.on_int_of(words),
+            6 => self.on_truth(words),
+            7 => self.on_compare(words),
+            8 => self.on_concat(words),
+            9 => self.on_pow(words),
+            10 => self.on_fail(words),
+            11 => self.on_get_special(words),
+            12 => self.on_set_special(words),
+            13 => self.on_field(words),
+            14 => self.on_set_field(words),
+            15 => self.on_new_array(words),
+            16 => self.on_elem(words),
+            17 => self.on_set_elem(words),
+            18 => self.on_has(words),
+            19 => self.on_delete(words),
+            20 => self.on_join(words),
+            21 => self.on_iter(words),
+            22 => self.on_iter_next(words),
+            23 => self.on_length(words),
+            24 => self.on_matches(words),
+            25 => self.on_match(words),
+            26 => self.on_sub(words),
+            27 => self.on_sub_result(words),
+            28 => self.on_split(words),
+            29 => self.on_substr(words),
+            30 => self.on_substr_from(words),
+            31 => self.on_index(words),
+            32 => self.on_lower(words),
+            33 => self.on_upper(words),
+            34 => self.on_next_main(words),
+            35 => self.on_getline(words),
+            36 => self.on_getline_var(words),
+            37 => self.on_getline_file(words),
+            38 => self.on_getline_var_file(words),
+            39 => self.on_line(words),
+            40 => self.on_declare(words, memory),
+            41 => self.on_start_assign(words),
+            42 => self.on_pending_name(words),
+            43 => self.on_pending_value(words),
+            44 => self.on_begin_end(words),
+            45 => self.on_close(words),
+            46 => self.on_arg(words),
+            47 => self.on_sprintf(words),
+            48 => self.on_print(words),
+            49 => self.on_printf(words),
+            50 => self.on_drop(words),
+            51 => self.on_iter_free(words),
+            52 => self.on_free_array(words),
+            53 => self.on_next_file(words),
+            54 => self.on_clear(words),
+            55 => self.on_flush(words),
+            _ => unknown(),
         }
     }
 }

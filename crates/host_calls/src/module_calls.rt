@@ -2,19 +2,10 @@
 ghost use Rattle.std.specs.Prelude.{◌≡◌};
 
 use crate::host::Host;
-use host_imports::Import;
 use wasm_model::{HostAnswer, HostCalls};
-use wasm_store::{Memory, TrapKind, Word};
+use wasm_store::{Memory, Word};
 use wasm_types::FuncType;
 use world_core::World;
-
-/// What is answered to a number that no import has.
-#[inline(never)]
-fn unknown() -> HostAnswer
-    ensures { result ≡ HostAnswer.Trap TrapKind.BadArgument }
-{
-    HostAnswer::Trap(TrapKind::BadArgument)
-}
 
 impl<W: World> HostCalls for Host<W> {
     ghost use Rattle.std.specs.Prelude.{false};
@@ -43,10 +34,7 @@ impl<W: World> HostCalls for Host<W> {
     // In the machine's loop, so that the answer is not copied on the way.
     #[inline(always)]
     fn call(&mut self, import: u32, args: &[Word], memory: &mut Memory) -> HostAnswer {
-        match Import::of_number(import) {
-            Some(import) => self.answer(args, memory.bytes(), import),
-            None => unknown(),
-        }
+        self.answer(args, memory.bytes(), import)
     }
 
     ghost halts = { λ _. false };
