@@ -5,6 +5,7 @@ use Rattle.wasm_store.specs.declared.word.Word.{Word}
 use Rattle.world_core.specs.Traces.{Call}
 use Rattle.world_core.specs.WorldState.{Action, State}
 use Rattle.host_streams.specs.Given.{Gives}
+use Rattle.host_imports.specs.Imports.{import_at}
 use Rattle.host_imports.specs.declared.import.Import.{Import}
 use Rattle.host_step.specs.declared.refusal.Refusal.{Refusal}
 use Rattle.host_values.specs.Calls.{CarriesOut}
@@ -36,6 +37,13 @@ abbrev pub Means : {W : Type 0} {g : _} → Type 0 → (W → State) → (W → 
     → Host W g → Type 0
 Means tells told did i before words memory a after-call =
     MeansSome tells (Gave did before after-call) i (host_form told before) words memory a (host_form told after-call)
+
+-- the same of the import that has the number, if one has
+abbrev pub MeansAt : {W : Type 0} {g : _} → Type 0 → (W → State) → (W → Call → W → Type 0) → ℕ → Host W g → List Word → List ℕ → HostAnswer
+    → Host W g → Type 0
+MeansAt tells told did number before words memory a after-call =
+    (output : List Action) × Gave did before after-call output
+    × FormMeans tells (import_at number) (host_form told before) words memory a (host_form told after-call) output
 
 -- a call that came to this is carried out over the host's values, and told
 abbrev pub Settles : {W : Type 0} {g : _} → (W → State) → Import → Result Evaluated Refusal → Host W g → HostAnswer → Host W g → Type 0

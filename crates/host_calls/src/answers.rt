@@ -1,6 +1,6 @@
 //! The answer to a call.
 ghost use Rattle.std.specs.Prelude.{◌≡◌, List, ℕ, IsSome, Ok};
-ghost use Rattle.host_calls.specs.Calls.{Means, Settles};
+ghost use Rattle.host_calls.specs.Calls.{MeansAt, Settles};
 ghost use Rattle.host_calls.specs.Forms.{host_form};
 ghost use Rattle.host_imports.specs.Imports.{import_answer};
 ghost use Rattle.host_step.specs.Answers.{refusal};
@@ -63,11 +63,14 @@ impl<W: World> Host<W> {
     /// Answers a call once a fault is kept: every import but those that let something go only refuses. It stands apart, so that the other calls look at
     /// nothing but whether a fault is kept.
     #[inline(never)]
-    fn answer_faulted(&mut self, words: &[Word], import: Import) -> HostAnswer
+    fn answer_faulted(&mut self, words: &[Word], number: u32) -> HostAnswer
         requires { IsSome self.old.tables.fault }
-        ensures { (memory : List ℕ) → Means W.is_modelled W.state W.did import self.old words.now
+        ensures { (memory : List ℕ) → MeansAt W.is_modelled W.state W.did number self.old words.now
             memory result self.new }
     {
+        let Some(import) = Import::of_number(number) else {
+            return unknown();
+        };
         match import {
             Import::Drop => self.on_drop(words),
             Import::IterFree => self.on_iter_free(words),
@@ -76,16 +79,16 @@ impl<W: World> Host<W> {
         }
     }
 
-    /// Answers a call of an import. Once a fault is kept every import but those that let something go only refuses. It stands apart, so that the machine's
-    /// loop has one call for all imports. The words come first, so that they stand where each import takes them.
+    /// Answers a call of the import of a number. Once a fault is kept every import but those that let something go only refuses. It is inlined into the machine's
+    /// loop, so that the answer is not copied on the way, and goes by the number, so that it is looked at once. The words come first, so that they stand where
+    /// each import takes them.
     #[inline(always)]
     pub(crate) fn answer(&mut self, words: &[Word], memory: &[u8], number: u32) -> HostAnswer
+        ensures { MeansAt W.is_modelled W.state W.did number self.old words.now memory.now result
+            self.new }
     {
         if self.tables.fault().is_some() {
-            return match Import::of_number(number) {
-                Some(import) => self.answer_faulted(words, import),
-                None => unknown(),
-            };
+            return self.answer_faulted(words, number);
         }
         match number {
             0 => self.on_num(words),
