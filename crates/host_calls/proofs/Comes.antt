@@ -7,7 +7,7 @@ use Rattle.wasm_store.specs.declared.word.Word.{Word}
 use Rattle.world_core.specs.WorldState.{Action, Entry, Outside, State}
 use Rattle.host_step.specs.HostState.{HostState}
 use Rattle.host_step.specs.HostStep.{refuses}
-use Rattle.host_imports.specs.Imports.{import_at, lets_go}
+use Rattle.host_imports.specs.Imports.{lets_go}
 use Rattle.host_imports.specs.declared.import.Import.{Import}
 use Rattle.host_worlds.specs.declared.input.Input.{Input}
 use Rattle.host_step.specs.declared.refusal.Refusal.{Refusal}
@@ -16,7 +16,6 @@ use Rattle.host_values.specs.ElementCalls.{IsTableCall}
 use Rattle.host_values.specs.Calls.{CarriesOut}
 use Rattle.host_values.specs.Evaluations.{Evaluates, Evaluation, Values}
 use Rattle.host_values.specs.declared.reply.Evaluated.{Evaluated}
-use Rattle.host_values.specs.FormMeaning.{FormMeans}
 use Rattle.host_values.specs.Forms.{HostForm}
 use Rattle.host_texts.specs.NameForms.{left_after}
 use Rattle.host_values.specs.Findings.{After, Finding, View, form_finding, viewed}
@@ -130,13 +129,6 @@ module _ (tells : Type 0) (given : List Action → Type 0) (none_given : given [
 pub found : (tells : Type 0) (given : List Action → Type 0) (i k : Import) (before : HostForm) (words : List Word) (memory : List ℕ) (a : HostAnswer) (after-call : HostForm) → i ≡ k
     → MeansSome tells given k before words memory a after-call → MeansSome tells given i before words memory a after-call
 found tells given i k before words memory a after-call is means = subst (λ (j : Import). MeansSome tells given j before words memory a after-call) (sym is) means
-
--- an answer, by the number of the import
-pub numbered : (tells : Type 0) (given : List Action → Type 0) (n k : ℕ) (before : HostForm) (words : List Word) (memory : List ℕ) (a : HostAnswer) (after-call : HostForm) → n ≡ k
-    → ((output : List Action) × given output × FormMeans tells (import_at k) before words memory a after-call output)
-    → (output : List Action) × given output × FormMeans tells (import_at n) before words memory a after-call output
-numbered tells given n k before words memory a after-call is means =
-    subst (λ (j : ℕ). (output : List Action) × given output × FormMeans tells (import_at j) before words memory a after-call output) (sym is) means
 
 -- an import that can be refused is not, so no fault is kept
 pub none_kept : (i : Import) (o : Option Fault) → lets_go i ≡ false → refuses i o ≡ false → o ≡ None

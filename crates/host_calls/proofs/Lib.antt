@@ -4,5 +4,6 @@ pub mod Gaves
 pub mod KeptFaults
 pub mod Live
 pub mod Moved
+pub mod Numbered
 pub mod Starting
 pub mod Written

@@ -2,7 +2,7 @@
 use Rattle.std.proofs.Common.{rules}
 use Rattle.host_calls.specs.Calls.{Gave}
 use Rattle.host_calls.specs.Forms.{host_form}
-use Rattle.host_calls.proofs.Comes.{numbered}
+use Rattle.host_calls.proofs.Numbered.{above, none_past, numbered, unknown_means}
 use Rattle.host_calls.proofs.host.Host.answer.Goals as goal
 
 pub returns-in-0 : goal.returns-in-0
