@@ -125,11 +125,6 @@ module _ (tells : Type 0) (given : List Action → Type 0) (none_given : given [
       told_comes tells given i before after after-call words memory r a told kept
       (table_comes tells given none_given i words memory before after r refl (carried_tables i words memory t now values evaluated r e none comes evaluates carries before))
 
--- an answer, by the import that was found
-pub found : (tells : Type 0) (given : List Action → Type 0) (i k : Import) (before : HostForm) (words : List Word) (memory : List ℕ) (a : HostAnswer) (after-call : HostForm) → i ≡ k
-    → MeansSome tells given k before words memory a after-call → MeansSome tells given i before words memory a after-call
-found tells given i k before words memory a after-call is means = subst (λ (j : Import). MeansSome tells given j before words memory a after-call) (sym is) means
-
 -- an import that can be refused is not, so no fault is kept
 pub none_kept : (i : Import) (o : Option Fault) → lets_go i ≡ false → refuses i o ≡ false → o ≡ None
 none_kept i None keeps goes = refl

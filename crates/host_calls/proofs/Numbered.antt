@@ -1,5 +1,5 @@
 -- From what the call of an import means to what the call of its number does.
-use Rattle.std.proofs.Common.{◌≡◌, ◌≢◌, ◌≤◌, ◌+◌, ℕ, List, [], Option, Some, None, refl, subst, sym, arith}
+use Rattle.std.proofs.Common.{◌≡◌, ◌≤◌, ℕ, List, [], Option, Some, None, refl, subst, sym}
 use Rattle.std.proofs.lemmas.Option.{slice_get_past}
 use Rattle.wasm_model.specs.declared.host.HostAnswer.{HostAnswer}
 use Rattle.wasm_model.specs.declared.host.HostAnswer.TheVariants.{Trap}
@@ -7,7 +7,7 @@ use Rattle.wasm_store.specs.declared.trap.TrapKind.TheVariants.{BadArgument}
 use Rattle.wasm_store.specs.declared.word.Word.{Word}
 use Rattle.world_core.specs.Traces.{Call}
 use Rattle.world_core.specs.WorldState.{Action, State}
-use Rattle.host_imports.specs.Imports.{import_at, imports}
+use Rattle.host_imports.specs.Imports.{import_at, import_count, imports}
 use Rattle.host_imports.specs.declared.import.Import.{Import}
 use Rattle.host_values.specs.FormMeaning.{FormMeans}
 use Rattle.host_values.specs.Forms.{HostForm}
@@ -40,9 +40,6 @@ unknown_means tells told did n h words memory a is none =
     let means = subst (λ (i : Option Import). FormMeans tells i before words memory (Trap BadArgument) before []) (sym none) (unknown_called tells before words memory) in
     ([], gave_none did h h refl refl, subst (λ (b : HostAnswer). FormMeans tells (import_at n) before words memory b before []) (sym is) means)
 
--- a number that is at least another one, and is not that, is above it
-pub above : (k n : ℕ) → k ≤ n → n ≢ k → k + 1 ≤ n
-above k n more other = omega (arith, more, other)
-
-pub none_past : (n : ℕ) → 56 ≤ n → import_at n ≡ None
+-- past the last import
+pub none_past : (n : ℕ) → import_count ≤ n → import_at n ≡ None
 none_past n past = slice_get_past imports n past

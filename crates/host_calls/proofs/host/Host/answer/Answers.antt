@@ -1,8 +1,8 @@
 -- The answer to each number.
-use Rattle.std.proofs.Common.{rules}
+use Rattle.std.proofs.Common.{arith, rules}
 use Rattle.host_calls.specs.Calls.{Gave}
 use Rattle.host_calls.specs.Forms.{host_form}
-use Rattle.host_calls.proofs.Numbered.{above, none_past, numbered, unknown_means}
+use Rattle.host_calls.proofs.Numbered.{none_past, numbered, unknown_means}
 use Rattle.host_calls.proofs.host.Host.answer.Goals as goal
 
 pub returns-in-0 : goal.returns-in-0
@@ -228,3 +228,7 @@ returns-in-54 g c = numbered g.W.World.is_modelled (Gave g.W.World.did c.args.se
 pub returns-in-55 : goal.returns-in-55
 returns-in-55 g c = numbered g.W.World.is_modelled (Gave g.W.World.did c.args.self.now c.on_flush.new.self) c.args.number 55 (host_form g.W.World.state c.args.self.now) c.args.words.now c.args.memory.now
     c.on_flush.result (host_form g.W.World.state c.on_flush.new.self) (search rules) (c.on_flush.ensures c.args.memory.now)
+
+pub returns-in_default : goal.returns-in_default
+returns-in_default g c =
+    unknown_means g.W.World.is_modelled g.W.World.state g.W.World.did c.args.number c.args.self.now c.args.words.now c.args.memory.now c.unknown.result c.unknown.ensures (none_past c.args.number (omega arith))
