@@ -87,10 +87,8 @@ impl<W: World> Host<W> {
         ensures { MeansAt W.is_modelled W.state W.did number self.old words.now memory.now result
             self.new }
     {
-        if self.tables.fault().is_some() {
-            return self.answer_faulted(words, number);
-        }
         match number {
+            _ if self.tables.fault().is_some() => self.answer_faulted(words, number),
             0 => self.on_num(words),
             1 => self.on_lit(words, memory),
             2 => self.on_uninit(words),

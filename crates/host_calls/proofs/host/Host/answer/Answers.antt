@@ -229,6 +229,6 @@ pub returns-in-55 : goal.returns-in-55
 returns-in-55 g c = numbered g.W.World.is_modelled (Gave g.W.World.did c.args.self.now c.on_flush.new.self) c.args.number 55 (host_form g.W.World.state c.args.self.now) c.args.words.now c.args.memory.now
     c.on_flush.result (host_form g.W.World.state c.on_flush.new.self) (search rules) (c.on_flush.ensures c.args.memory.now)
 
-pub returns-in_default : goal.returns-in_default
-returns-in_default g c =
+pub returns-in_default-2 : goal.returns-in_default-2
+returns-in_default-2 g c =
     unknown_means g.W.World.is_modelled g.W.World.state g.W.World.did c.args.number c.args.self.now c.args.words.now c.args.memory.now c.unknown.result c.unknown.ensures (none_past c.args.number (omega arith))
