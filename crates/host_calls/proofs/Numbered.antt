@@ -32,6 +32,11 @@ module _ (tells : Type 0) (given : List Action → Type 0) where
   found_at n i before words memory a after-call is means =
       subst (λ (o : Option Import). (output : List Action) × given output × FormMeans tells o before words memory a after-call output) (sym is) means
 
+  -- a call over the same bytes
+  pub bytes_are : (i : Import) (before : HostForm) (words : List Word) (memory bytes : List ℕ) (a : HostAnswer) (after-call : HostForm) → memory ≡ bytes
+      → MeansSome tells given i before words memory a after-call → MeansSome tells given i before words bytes a after-call
+  bytes_are i before words memory bytes a after-call is means = subst (λ (bs : List ℕ). MeansSome tells given i before words bs a after-call) is means
+
 -- no import has the number
 pub unknown_means : {W : Type 0} {g : _} (tells : Type 0) (told : W → State) (did : W → Call → W → Type 0) (n : ℕ) (h : Host W g) (words : List Word) (memory : List ℕ) (a : HostAnswer)
     → a ≡ Trap BadArgument → import_at n ≡ None → MeansAt tells told did n h words memory a h

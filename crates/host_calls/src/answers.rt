@@ -12,7 +12,7 @@ use host_imports::Import;
 use host_tables::{refusal, told};
 use host_values::{Evaluated, Refusal, carry_out};
 use wasm_model::HostAnswer;
-use wasm_store::{TrapKind, Word};
+use wasm_store::{Memory, TrapKind, Word};
 use world_core::World;
 
 /// What is answered to a number that no import has.
@@ -83,14 +83,14 @@ impl<W: World> Host<W> {
     /// loop, so that the answer is not copied on the way, and goes by the number, so that it is looked at once. The words come first, so that they stand where
     /// each import takes them.
     #[inline(always)]
-    pub(crate) fn answer(&mut self, words: &[Word], memory: &[u8], number: u32) -> HostAnswer
-        ensures { MeansAt W.is_modelled W.state W.did number self.old words.now memory.now result
-            self.new }
+    pub(crate) fn answer(&mut self, words: &[Word], memory: &Memory, number: u32) -> HostAnswer
+        ensures { MeansAt W.is_modelled W.state W.did number self.old words.now memory.now.bytes
+            result self.new }
     {
         match number {
             _ if self.tables.fault().is_some() => self.answer_faulted(words, number),
             0 => self.on_num(words),
-            1 => self.on_lit(words, memory),
+            1 => self.on_lit(words, memory.bytes()),
             2 => self.on_uninit(words),
             3 => self.on_dup(words),
             4 => self.on_to_num(words),
@@ -129,7 +129,7 @@ impl<W: World> Host<W> {
             37 => self.on_getline_file(words),
             38 => self.on_getline_var_file(words),
             39 => self.on_line(words),
-            40 => self.on_declare(words, memory),
+            40 => self.on_declare(words, memory.bytes()),
             41 => self.on_start_assign(words),
             42 => self.on_pending_name(words),
             43 => self.on_pending_value(words),

@@ -34,7 +34,7 @@ impl<W: World> HostCalls for Host<W> {
     // In the machine's loop, so that the answer is not copied on the way.
     #[inline(always)]
     fn call(&mut self, import: u32, args: &[Word], memory: &mut Memory) -> HostAnswer {
-        self.answer(args, memory.bytes(), import)
+        self.answer(args, memory, import)
     }
 
     ghost halts = { λ _. false };
