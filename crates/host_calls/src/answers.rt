@@ -79,9 +79,9 @@ impl<W: World> Host<W> {
         }
     }
 
-    /// Answers a call of the import of a number. Once a fault is kept every import but those that let something go only refuses. It is inlined into the machine's
-    /// loop, so that the answer is not copied on the way, and goes by the number, so that it is looked at once. The words come first, so that they stand where
-    /// each import takes them.
+    /// Answers a call of the import that has the number in `IMPORTS`. Once a fault is kept every import but those that let something go only refuses. It is inlined
+    /// into the machine's loop, where an answer is not copied, and goes by the number, since to find the import first takes longer. The words come first, so that
+    /// they stand where each import takes them.
     #[inline(always)]
     pub(crate) fn answer(&mut self, words: &[Word], memory: &Memory, number: u32) -> HostAnswer
         ensures { MeansAt W.is_modelled W.state W.did number self.old words.now memory.now.bytes
