@@ -3,6 +3,7 @@ pub mod ImportCalls
 pub mod Machine
 pub mod Places
 pub mod Small
+pub mod Appends
 pub mod Arithmetic
 pub mod Quick
 pub mod Emission
