@@ -89,3 +89,4 @@ pub mod Wholes
 pub mod Following
 pub mod Observer
 pub mod Silent
+pub mod Chains

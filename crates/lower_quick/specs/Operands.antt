@@ -71,14 +71,13 @@ product_in code = None
 
 -- texts that are put together
 
--- the two operands of an operation
-abbrev pub both_in : Code → Option (Code × Code)
-both_in (Do operation operands) = two_codes operands
-both_in code = None
+abbrev pub is_concat : Primitive → Bool
+is_concat row.Concat = true
+is_concat primitive = false
 
-abbrev pub is_concat : Code → Bool
-is_concat (Do (Host row.Concat) operands) = true
-is_concat code = false
+abbrev pub concat_in : Code → Option (Code × Code)
+concat_in (Do (Host row.Concat) operands) = two_codes operands
+concat_in code = None
 
 abbrev pub are_all_still : Slot → List Code → Bool
 are_all_still slot [] = true

@@ -1,9 +1,9 @@
 //! Texts that are put behind a boxed name's own.
 ghost use Rattle.std.specs.Option.{option_map};
-ghost use Rattle.std.specs.Prelude.{◌≡◌, map};
+ghost use Rattle.std.specs.Prelude.{◌≡◌, ◌&&◌, map};
 ghost use Rattle.mid_program.specs.Mid.{Codes};
 ghost use Rattle.mid_program.specs.ViewCode.{before, view, view_array, view_slot, views};
-ghost use Rattle.lower_quick.specs.Operands.{are_all_still, both_in, is_concat};
+ghost use Rattle.lower_quick.specs.Operands.{are_all_still, concat_in, is_concat};
 ghost use Rattle.lower_quick.specs.View.{view_append};
 ghost use Rattle.lower_model.specs.Appends.{append_in, append_of, are_still, is_array_of, is_chain, is_name, is_still, same_slot};
 
@@ -70,31 +70,30 @@ fn is_still(slot: Slot, code: &Code) -> bool
     }
 }
 
-/// Whether an operand is such code, where those after it are.
+/// Whether an operand is such code, or a constant.
 #[cycle(still)]
-fn operand_still(slot: Slot, operand: &Operand, after: bool) -> bool
-    ensures { (rest : Codes) → after ≡ are_still (view_slot slot) rest
-        → result ≡ are_still (view_slot slot) (before operand.now rest) }
+fn operand_still(slot: Slot, operand: &Operand) -> bool
+    ensures { (rest : Codes) → are_still (view_slot slot) (before operand.now rest)
+        ≡ (result && are_still (view_slot slot) rest) }
 {
     match operand {
-        Operand::Code(code) => is_still(slot, code) && after,
-        Operand::Constant(_) => after,
+        Operand::Code(code) => is_still(slot, code),
+        Operand::Constant(_) => true,
         Operand::Fresh => false,
     }
 }
 
-/// Whether all operands are such code.
+/// Whether all operands are.
 #[cycle(still)]
 fn are_still(slot: Slot, operands: &[Operand]) -> bool
     ensures { result ≡ are_still (view_slot slot) (views operands.now) }
 {
-    let mut still = true;
-    let mut left = operands.len();
-    while left > 0 {
-        left -= 1;
-        still = operand_still(slot, &operands[left], still);
+    for operand in operands {
+        if !operand_still(slot, operand) {
+            return false;
+        }
     }
-    still
+    true
 }
 
 /// Whether all of several codes are.
@@ -120,24 +119,30 @@ fn is_name(slot: Slot, code: &Code) -> bool
     }
 }
 
-/// Whether code puts two texts together.
-fn is_concat(code: &Code) -> bool
-    ensures { result ≡ is_concat (view code.now) }
+/// Whether a primitive puts two texts together.
+fn is_concat(primitive: Primitive) -> bool
+    ensures { result ≡ is_concat primitive }
 {
-    match code {
-        Code::Do(Operation::Host(primitive), _) => matches!(primitive, Primitive::Concat),
-        _ => false,
-    }
+    matches!(primitive, Primitive::Concat)
 }
 
-/// The two operands of an operation, as they are in a chain: what stands before the last text, and that text.
-pub fn both_in(code: &Code) -> Option<(&Code, &Code)>
+/// The two texts that code puts together.
+pub fn concat_in(code: &Code) -> Option<(&Code, &Code)>
     ensures { option_map (λ both. (view both.0.now, view both.1.now)) result
-        ≡ both_in (view code.now) }
+        ≡ concat_in (view code.now) }
 {
-    match code {
-        Code::Do(_, operands) => two_codes(operands),
-        _ => None,
+    let Code::Do(operation, operands) = code else {
+        return None;
+    };
+    match operation {
+        Operation::Host(primitive) => {
+            if is_concat(*primitive) {
+                two_codes(operands)
+            } else {
+                None
+            }
+        }
+        Operation::Inline(_) | Operation::AsNumber | Operation::FieldNumber => None,
     }
 }
 
@@ -145,10 +150,7 @@ pub fn both_in(code: &Code) -> Option<(&Code, &Code)>
 fn is_chain(slot: Slot, code: &Code) -> bool
     ensures { result ≡ is_chain (view_slot slot) (view code.now) }
 {
-    if !is_concat(code) {
-        return false;
-    }
-    match both_in(code) {
+    match concat_in(code) {
         Some((left, right)) => is_still(slot, right) && (is_name(slot, left) || is_chain(slot, left)),
         None => false,
     }

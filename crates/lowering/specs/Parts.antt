@@ -12,7 +12,7 @@ use Rattle.wasm_types.specs.declared.instr.IRelOp.TheVariants.{Eq, LeS, Ne}
 use Rattle.wasm_types.specs.declared.instr.ITestOp.TheVariants.{Eqz}
 use Rattle.wasm_types.specs.declared.instr.Simple.TheVariants.{Nop, Br, BrIf, LocalGet, LocalSet, LocalTee, GlobalGet, GlobalSet, I32Const, I64Const, Test, Compare as Comparing, Convert}
 use Rattle.sem_scripts.specs.Names.{ArrayName}
-use Rattle.mid_program.specs.Mid.{Kind, Boxed, Unboxed, ArrayKind, Code, Form, Step, Steps, Program, form_of}
+use Rattle.mid_program.specs.Mid.{Kind, Boxed, Unboxed, ArrayKind, Code, Get, Form, Step, Steps, Program, form_of}
 use Rattle.lower_model.specs.Emission.{Layout, array_pushed, emitted, pending_assigned, tested, name_read}
 use Rattle.lower_model.specs.Quick.{Counted, Holder, Pair, Remainder, Sum, all_unsure, sum_names, sum_op, Tally, Within, is_nothing, pair_in, step_jumps, test_within}
 use Rattle.lower_model.specs.Places.{Bases, answer_local, handle_global, iterator_local, status_global, way_global, handle_local, number_local}
@@ -58,6 +58,11 @@ abbrev pub text_joined : Layout → ℕ → (exit : ℕ) → Instructions → In
 text_joined layout name exit after =
     emit (GlobalGet (handle_global layout.ranges name)) (moved_out (handle_local layout.bases zero) (ask_row row.Concat (kept_value layout.bases true zero exit
     (moved_out (handle_local layout.bases zero) (emit (GlobalSet (handle_global layout.ranges name)) after)))))
+
+-- whether code reads a name
+abbrev pub is_read : Code → Bool
+is_read (Get slot) = true
+is_read code = false
 
 -- whether a name has no number
 abbrev pub unnumbered : Layout → Holder → Instructions → Instructions

@@ -1,18 +1,18 @@
 //! Texts that are put behind a name's own: the name gives its text away for each of them, so nobody else holds it.
-ghost use Rattle.std.specs.Prelude.{◌≤◌};
+ghost use Rattle.std.specs.Prelude.{◌≡◌, ◌≤◌};
 ghost use Rattle.mid_program.specs.ViewCode.{view};
 ghost use Rattle.lower_model.specs.Statements.{chain_appended, text_appended};
 ghost use Rattle.lower_pieces.specs.Bounds.{most_places};
 ghost use Rattle.lower_pieces.specs.Emits.{Emits};
 ghost use Rattle.lower_expressions.specs.Fits.{Fits};
 ghost use Rattle.lower_expressions.specs.View.{view_layout};
-ghost use Rattle.lowering.specs.Parts.{text_joined};
+ghost use Rattle.lowering.specs.Parts.{is_read, text_joined};
 ghost use Rattle.lowering.specs.QuickFits.{ChainFits};
 
 use crate::evaluating::answered;
 use lower_expressions::{FunctionLayout, global_handle};
 use lower_pieces::{Emitted, emit, kept_value, moved_out, row_call, to_value};
-use lower_quick::both_in;
+use lower_quick::concat_in;
 use mid_program::Code;
 use sem_primitives::Primitive;
 use wasm_types::Simple;
@@ -49,6 +49,13 @@ fn text_appended(
     text_joined(layout, out, name, exit);
 }
 
+/// Whether code reads a name.
+fn is_read(code: &Code) -> bool
+    ensures { result ≡ is_read (view code.now) }
+{
+    matches!(code, Code::Get(_))
+}
+
 /// Puts the texts of a chain behind a name's own, one after the other.
 pub(crate) fn chain_appended(
     layout: &FunctionLayout<'_>,
@@ -62,11 +69,15 @@ pub(crate) fn chain_appended(
     ensures { Emits out.old out.new
         (chain_appended (view_layout layout.now) name (view chain.now) exit) }
 {
-    let Some((before, code)) = both_in(chain) else {
-        return;
-    };
-    if !matches!(before, Code::Get(_)) {
-        chain_appended(layout, out, name, before, exit);
+    match concat_in(chain) {
+        Some((before, code)) => {
+            if is_read(before) {
+                text_appended(layout, out, name, code, exit);
+            } else {
+                chain_appended(layout, out, name, before, exit);
+                text_appended(layout, out, name, code, exit);
+            }
+        }
+        None => {}
     }
-    text_appended(layout, out, name, code, exit);
 }
