@@ -26,7 +26,7 @@ use Rattle.lower_model.specs.Places.{Bases, handle_global, handle_local}
 use Rattle.lower_model.specs.Quick.{Addition, Within, addition_in, addition_names, addition_of, test_within, Holder, OfName, OfParameter, holder_of, set_after, set_alone, Source, source_in, Sum, sum_names, sum_op, sum_in, sum_of, two_sum, set_sum, kept_sum, update_sum, old_source, stored_name, new_sum, let_sum, Update, update_in, Tally, tally_in, Remainder, remainder_in, remainder_names, Counted, counted_in, Pair, pair_names, pair_in, step_jumps, is_nothing}
 use Rattle.lower_model.specs.Small.{ask_row, emit, emit_if, kept_value, moved_out, to_value}
 use Rattle.lower_model.specs.Statements.{answer_given, returned, holder_cleared, name_numbered, sum_kept, sum_taken, both_asked, element_numbered, element_given, text_appended, chain_appended, appended_dropped, remainder_dropped, barely_dropped, plainly_dropped, quickly_dropped, left_unless_counted, left_unless_pair, left_unless, again, all_emptied, arrays_emptied, before_parts, block, iterator_left, iterators_emptied, key_stored, left_by, names_declared, names_made, part_done, record_done, records_read, routines_declared, step_emitted, steps_emitted, temporaries_emptied}
-use Rattle.lower_model.proofs.Chains.{IsChain, one, more, append_is, last_appended}
+use Rattle.lower_model.proofs.Chains.{IsChain, one_text, more_texts, append_is, last_appended}
 use Rattle.lower_model.proofs.State.{holder_slot}
 use Rattle.lower_model.proofs.Tallies.{Shape, Updating, Following, Leading, tally_code, tally_is}
 use Rattle.lower_model.proofs.Updating.{added_code, added_is}
@@ -307,8 +307,8 @@ module _ (y : Layout) where
   text_deep i e d r = emitted_deep y false [] [] e zero zero d (joined_deep i (form_of [] e) d r)
 
   chain_deep : {k : Instructions} {m : ℕ} {x : Slot} {e : Code} (i d : ℕ) → IsChain x e → Deep k m → Deep (chain_appended y i e d k) m
-  chain_deep i d (one z a n s) r = text_deep i a d r
-  chain_deep {k = k} {m = m} i d (more c a q s) r = subst (λ (j : Instructions). Deep j m) (sym (last_appended y i a d k q)) (chain_deep i d q (text_deep i a d r))
+  chain_deep i d (one_text z a n s) r = text_deep i a d r
+  chain_deep {k = k} {m = m} i d (more_texts c a q s) r = subst (λ (j : Instructions). Deep j m) (sym (last_appended y i a d k q)) (chain_deep i d q (text_deep i a d r))
 
   appended_deep : {k : Instructions} {m : ℕ} (o : Option Append) (e : Code) (d : ℕ) → append_in e ≡ o → Deep k m → Deep (appended_dropped y o e d k) m
   appended_deep None e d h r = dropped_deep y [] [] e zero zero d r
@@ -358,8 +358,8 @@ module _ (y : Layout) where
   text_labelled k i e d = labelled _ false [] [] e zero zero d
 
   chain_labelled : (k : Instructions) {x : Slot} {e : Code} (i d : ℕ) → IsChain x e → Deep (chain_appended y i e d k) (labels_in e)
-  chain_labelled k i d (one z a n s) = at_least (text_labelled k i a d) (omega arith)
-  chain_labelled k i d (more c a q s) =
+  chain_labelled k i d (one_text z a n s) = at_least (text_labelled k i a d) (omega arith)
+  chain_labelled k i d (more_texts c a q s) =
       subst (λ (j : Instructions). Deep j (labels_in (Do (Host row.Concat) (At c (At a End))))) (sym (last_appended y i a d k q))
       (at_least (both (chain_labelled _ i d q) (chain_deep i d q (text_labelled k i a d))) (omega arith))
 

@@ -9,7 +9,7 @@ use Rattle.lower_model.specs.Appends.{Append, append_in}
 use Rattle.lower_model.specs.Emission.{Layout}
 use Rattle.lower_model.specs.Quick.{addition_in}
 use Rattle.lower_model.specs.Statements.{chain_appended, text_appended}
-use Rattle.lower_model.proofs.Chains.{IsChain, one, more, append_is}
+use Rattle.lower_model.proofs.Chains.{IsChain, one_text, more_texts, append_is}
 use Rattle.lower_pieces.specs.Bounds.{most_places}
 use Rattle.lower_expressions.specs.Fits.{AllFit, Fits, Within}
 use Rattle.lower_quick.specs.Operands.{concat_in}
@@ -54,12 +54,12 @@ module _ (y : Layout) where
   -- the texts of a chain
 
   more_fit : {x : Slot} {c : Code} (e : Code) (d : ℕ) → IsChain x c → ChainFits y c d → Fits y e 0 0 d → ChainFits y (Do (Host row.Concat) (At c (At e End))) d
-  more_fit e d (one z a n s) f g = (f, g)
-  more_fit e d (more c a r s) f g = (f, g)
+  more_fit e d (one_text z a n s) f g = (f, g)
+  more_fit e d (more_texts c a r s) f g = (f, g)
 
   chain_fits : {x : Slot} {e : Code} (d : ℕ) → IsChain x e → Fits y e 0 0 d → ChainFits y e d
-  chain_fits d (one z a n s) f = fits_before a 0 0 d f.1.1.1.0
-  chain_fits d (more c a r s) f = more_fit a d r (chain_fits d r f.1.0) (fits_before a 0 0 d f.1.1.1.0)
+  chain_fits d (one_text z a n s) f = fits_before a 0 0 d f.1.1.1.0
+  chain_fits d (more_texts c a r s) f = more_fit a d r (chain_fits d r f.1.0) (fits_before a 0 0 d f.1.1.1.0)
 
   pub append_fits : (e : Code) (q : Append) (d : ℕ) → append_in e ≡ Some q → Fits y e 0 0 d → (q.target ≤ most_places) × ChainFits y q.chain d
   append_fits e q d h f =
