@@ -1,32 +1,38 @@
 -- The parts of code and of steps as they stand in memory.
-use Rattle.std.proofs.Common.{◌≡◌, ℕ, zero, suc, ◌<◌, ◌≢◌, Bool, true, false, List, [], ◌∷◌, length, get_or, Option, Some, None, true≢false, refl, sym, ap, ◌∙◌, arith}
+use Rattle.std.proofs.Common.{◌≡◌, ℕ, zero, suc, ◌+◌, ◌<◌, ◌≢◌, Bool, true, false, List, [], ◌∷◌, drop, drop-cons, length, get_or, map, Option, Some, None, true≢false, refl, sym, ap, ◌∙◌, arith}
 use Rattle.std.specs.Option.{option_map}
 use Rattle.std.specs.Prelude.{ℤ, cond, if◌then◌else◌, nat_eq, ◌&&◌}
 use Rattle.std.specs.Bool.{◌==◌}
 use Rattle.std.proofs.lemmas.Bool.Decides.{nat_tests}
+use Rattle.std.specs.declared.boxed.Box.{Box}
 use Rattle.std.specs.declared.vec.Vec.{Vec}
 use Rattle.std.specs.declared.alloc.Global.{Global}
 use Rattle.mid_program.specs.Mid as plain
-use Rattle.mid_program.specs.ViewCode.{before, view, view_step, view_steps, views}
+use Rattle.mid_program.specs.ViewCode.{before, joined, view, view_step, view_steps, views}
 use Rattle.mid_program.specs.declared.mid.Arithmetic.{Arithmetic}
 use Rattle.mid_program.specs.declared.mid.Arithmetic.TheVariants as inline
+use Rattle.sem_primitives.specs.declared.table.Listed.{Listed}
 use Rattle.sem_primitives.specs.declared.table.Primitive.{Primitive}
 use Rattle.sem_primitives.specs.declared.table.Primitive.TheVariants as row
 use Rattle.mid_program.specs.declared.mid.Operation.{Operation}
 use Rattle.mid_program.specs.declared.mid.Operation.TheVariants.{AsNumber, Host, Inline}
 use Rattle.mid_program.specs.declared.code.Operand.{Operand}
 use Rattle.mid_program.specs.declared.code.Operand.TheVariants as operand
-use Rattle.mid_program.specs.declared.code.Code.{Code, Do}
+use Rattle.mid_program.specs.declared.code.Code.{Code, Do, Joined, Over}
 use Rattle.mid_program.specs.declared.step.Step.{Step, Block}
-use Rattle.lower_model.specs.Appends.{is_chain}
+use Rattle.mid_program.proofs.Views.{view_joined}
+use Rattle.lower_model.specs.Appends.{is_chain, is_still}
 use Rattle.lower_model.specs.Quick.{array_here, array_where, element_at, element_read, element_set, factor_in, field_count, first_sum, is_bound, is_count, is_nothing, kept_sum, kept_update, multiple_in, name_in, number_read, old_source, addition_of, constant_in, is_near, is_sum, new_sum, product_of, remainder_of, set_remainder, set_sum, set_update, sum_of, taker_at, tally_sum, two_product, two_remainder, update_sum, Addition, Constant, Holder, Source, Sum, multiple_of}
 use Rattle.lower_model.proofs.QuickNames.{some_is}
 use Rattle.lower_model.proofs.Tallies.{bound_is}
 use Rattle.lower_quick.specs.Operands.{binary_in, concat_in, is_concat, is_elem, is_modulo, is_set_elem, is_times, number_of, one_code, product_in, reads_special, three_codes, two_codes}
-use Rattle.lower_quick.proofs.Views.{view_block, view_do}
+use Rattle.lower_quick.proofs.Views.{view_block, view_do, view_over}
 
 pub do_view : (c : Code) (o : Operation) (v : Vec Operand Global) (es : List Operand) → c ≡ Do o v → es ≡ v.items → plain.Do o (views es) ≡ view c
 do_view c o v es is e = ap (λ (xs : List Operand). plain.Do o (views xs)) e ∙ sym (ap view is ∙ view_do o v)
+
+pub over_view : (c : Code) (l : Listed) (v : Vec Operand Global) (es : List Operand) → c ≡ Over l v → es ≡ v.items → plain.Over l (views es) ≡ view c
+over_view c l v es is e = ap (λ (xs : List Operand). plain.Over l (views xs)) e ∙ sym (ap view is ∙ view_over l v)
 
 pub block_view : (s : Step) (v : Vec Step Global) (ss : List Step) → s ≡ Block v → ss ≡ v.items → plain.Block (view_steps ss) ≡ view_step s
 block_view s v ss is e = ap (λ (xs : List Step). plain.Block (view_steps xs)) e ∙ sym (ap view_step is ∙ view_block v)
@@ -299,6 +305,30 @@ concat_are _ x y h = absurd cc
 pub no_chain : (s : plain.Slot) (e : plain.Code) → None ≡ concat_in e → false ≡ is_chain s e
 no_chain s (plain.Do (Host row.Concat) (plain.At x (plain.At y plain.End))) h = absurd cc
 no_chain s e h = refl
+
+-- the key of subscripts is still where each of them is
+
+and_so : (z : Bool) → (z && true) ≡ z
+and_so true = refl
+and_so false = refl
+
+key_more : (s : plain.Slot) (e : plain.Code) (es : List plain.Code) (last : plain.Code) → is_still s (joined (e ∷ es) last) ≡ (is_still s e && is_still s (joined es last))
+key_more s e es last = ap (λ (z : Bool). is_still s e && z) (and_so (is_still s (joined es last)))
+
+-- the first of those that are left
+pub key_next : (s : plain.Slot) (xs : List Code) (i : ℕ) (x : Code) (last : plain.Code) → i < length xs → x ≡ get_or xs i x →
+    is_still s (joined (map view (drop i xs)) last) ≡ (is_still s (view x) && is_still s (joined (map view (drop (i + 1) xs)) last))
+key_next s xs i x last lt at =
+    let next : suc i ≡ i + 1 = omega arith in
+    ap (λ (ys : List Code). is_still s (joined (map view ys) last)) (drop-cons xs i x lt)
+    ∙ key_more s (view (get_or xs i x)) (map view (drop (suc i) xs)) last
+    ∙ (λ j. is_still s (view (sym at j)) && is_still s (joined (map view (drop (next j) xs)) last))
+
+pub key_view : (s : plain.Slot) (c : Code) (a : Box Code Global) (v : Vec Code Global) (z : Box Code Global) (es : List Code) → c ≡ Joined a v z → es ≡ v.items →
+    (is_still s (view a.value) && is_still s (joined (map view es) (view z.value))) ≡ is_still s (view c)
+key_view s c a v z es is e =
+    sym (key_more s (view a.value) (map view es) (view z.value)) ∙ ap (λ (xs : List Code). is_still s (joined (view a.value ∷ map view xs) (view z.value))) e
+    ∙ sym (ap (λ (x : Code). is_still s (view x)) is ∙ ap (is_still s) (view_joined a v z))
 
 -- how many texts a chain has at most
 abbrev pub links : plain.Code → ℕ

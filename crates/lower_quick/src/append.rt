@@ -1,9 +1,9 @@
 //! Texts that are put behind a boxed name's own.
 ghost use Rattle.std.specs.Option.{option_map};
 ghost use Rattle.std.specs.Prelude.{◌≡◌, ◌&&◌, map};
-ghost use Rattle.mid_program.specs.Mid.{Codes};
-ghost use Rattle.mid_program.specs.ViewCode.{before, view, view_array, view_slot, views};
-ghost use Rattle.lower_quick.specs.Operands.{are_all_still, concat_in, is_concat};
+ghost use Rattle.mid_program.specs.Mid.{Code as Plain, Codes};
+ghost use Rattle.mid_program.specs.ViewCode.{before, joined, view, view_array, view_slot, views};
+ghost use Rattle.lower_quick.specs.Operands.{concat_in, is_concat};
 ghost use Rattle.lower_quick.specs.View.{view_append};
 ghost use Rattle.lower_model.specs.Appends.{append_in, append_of, are_still, is_array_of, is_chain, is_name, is_still, same_slot};
 
@@ -48,7 +48,7 @@ fn is_still(slot: Slot, code: &Code) -> bool
         Code::Do(_, operands) => are_still(slot, operands),
         Code::Over(_, operands) => are_still(slot, operands),
         Code::Joined(first, others, last) => {
-            is_still(slot, first) && all_still(slot, others) && is_still(slot, last)
+            is_still(slot, first) && key_still(slot, others, is_still(slot, last))
         }
         Code::Compare(_, left, right) => is_still(slot, left) && is_still(slot, right),
         Code::Number(_) | Code::Text(_) | Code::IsOpen(_) => true,
@@ -96,17 +96,18 @@ fn are_still(slot: Slot, operands: &[Operand]) -> bool
     true
 }
 
-/// Whether all of several codes are.
+/// Whether the subscripts of a key are, by whether the last of them is.
 #[cycle(still)]
-fn all_still(slot: Slot, codes: &[Code]) -> bool
-    ensures { result ≡ are_all_still (view_slot slot) (map view codes.now) }
+fn key_still(slot: Slot, others: &[Code], after: bool) -> bool
+    ensures { (last : Plain) → after ≡ is_still (view_slot slot) last
+        → result ≡ is_still (view_slot slot) (joined (map view others.now) last) }
 {
-    for code in codes {
+    for code in others {
         if !is_still(slot, code) {
             return false;
         }
     }
-    true
+    after
 }
 
 /// Whether code reads this name.
