@@ -19,6 +19,7 @@ use Rattle.lower_model.proofs.Sequences.{dropped_ok}
 use Rattle.lower_model.proofs.Tallies.{tally_is}
 use Rattle.lower_model.proofs.Tallying.{tallied_ok}
 use Rattle.lower_model.proofs.Remainders.{IsRemainder, remainder_is, remainder_ok, remainder_code}
+use Rattle.lower_model.proofs.Appending.{concat_means}
 use Rattle.lower_model.proofs.Updating.{added_is, updated_ok}
 
 module _ (p : Program) (deepest : Observer) (ks : List Kind) (F : List Frame) (b : Bases) (M n : ℕ) where

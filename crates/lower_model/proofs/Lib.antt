@@ -44,6 +44,8 @@ pub mod Tallies
 pub mod Tallying
 pub mod QuickParts
 pub mod Remainders
+pub mod Still
+pub mod Appending
 pub mod Evaluating
 pub mod QuickSteps
 pub mod Adding
