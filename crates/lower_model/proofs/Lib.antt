@@ -44,6 +44,7 @@ pub mod Tallies
 pub mod Tallying
 pub mod QuickParts
 pub mod Remainders
+pub mod Still
 pub mod Evaluating
 pub mod QuickSteps
 pub mod Adding
