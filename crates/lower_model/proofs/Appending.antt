@@ -85,6 +85,16 @@ concat_by f g (Gives v τ) n = second_by f g v (n τ)
 concat_by f g (Stops why τ) n = refl
 
 
+abbrev is_fault : Stop → Bool
+is_fault (Faulted x) = true
+is_fault why = false
+
+never : {X : Type 0} → false ≡ true → X
+never e = cc
+
+no_fault : {X : Type 0} (why : Stop) → FaultAlone why → is_fault why ≡ false → X
+no_fault why h e = never (sym e ∙ ap is_fault h.1)
+
 -- a name that has what it has
 pub global_same : (i : ℕ) (σ : State) → with_global i (global_value i σ) σ ≡ σ
 global_same i σ = ap (λ gs. record σ { globals = gs }) (set-get_or σ.globals i value.Uninit)
@@ -232,11 +242,11 @@ module _ (p : Program) (deepest : Observer) (ks : List Kind) (F : List Frame) (b
     carried v w l d K c P P1 σ (Stops (Faulted x) τ) f h r next =
         let q = r.cost.few in
         record { conf = r.conf; steps = r.steps; goes = r.goes; cost = record { down = r.cost.down; paid = r.cost.paid; few = omega (arith, q) }; holds = less i v x d K τ r.conf hk r.holds }
-    carried v w l d K c P P1 σ (Stops OutOfTurns τ) f h r next = absurd (not_faulted h.0)
-    carried v w l d K c P P1 σ (Stops TooDeep τ) f h r next = absurd (not_faulted h.0)
-    carried v w l d K c P P1 σ (Stops Nexted τ) f h r next = absurd (not_faulted h.0)
-    carried v w l d K c P P1 σ (Stops Exited τ) f h r next = absurd (not_faulted h.0)
-    carried v w l d K c P P1 σ (Stops (Returned y) τ) f h r next = absurd (not_faulted h.0)
+    carried v w l d K c P P1 σ (Stops OutOfTurns τ) f h r next = no_fault OutOfTurns h.0 refl
+    carried v w l d K c P P1 σ (Stops TooDeep τ) f h r next = no_fault TooDeep h.0 refl
+    carried v w l d K c P P1 σ (Stops Nexted τ) f h r next = no_fault Nexted h.0 refl
+    carried v w l d K c P P1 σ (Stops Exited τ) f h r next = no_fault Exited h.0 refl
+    carried v w l d K c P P1 σ (Stops (Returned y) τ) f h r next = no_fault (Returned y) h.0 refl
 
     -- one text more
     one_ok : (e : Code) → ExprOk p deepest ks F b M n e → is_still (Global false i) e ≡ true → fits (form_of [] e) sort.Value ≡ true → sorted (context p deepest ks F b M n) [] e ≡ true → room e ≤ b.temporaries → arrays_in e ≤ b.arrays →

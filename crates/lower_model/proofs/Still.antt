@@ -1,4 +1,5 @@
--- Code that is still for a name does the same whatever the name has. It changes nothing but what the host has, so that the name keeps its value, and it stops by faults alone.
+-- Code that is still for a name does the same whatever the name has. It changes nothing but what the host has, so that the name keeps its value, and it
+-- stops by faults alone.
 use Rattle.std.proofs.Common.{◌≡◌, ℕ, Bool, true, false, List, [], Result, Ok, Err, refl, sym, ap, subst, ◌∙◌}
 use Rattle.std.specs.Prelude.{if◌then◌else◌, not, ◌&&◌, get_or, nat_eq}
 use Rattle.std.proofs.lemmas.Bool.{and_parts, eqb-true, eqb-false, not-true}
@@ -77,7 +78,8 @@ ends_follows : {A : Type 0} (σ τ : State) (r : Outcome A) → HostAlone σ τ 
 ends_follows σ τ (Gives a υ) h k = alone_follows σ τ υ h k
 ends_follows σ τ (Stops why υ) h k = (k.0, alone_follows σ τ υ h k.1)
 
-on_apart : {A B : Type 0} (x : Slot) (v : Value) (r : Outcome A) (f : A → Execution B) → ((a : A) → Stilly x (f a)) → go_on (with_state (stored_in x v) r) f ≡ with_state (stored_in x v) (go_on r f)
+on_apart : {A B : Type 0} (x : Slot) (v : Value) (r : Outcome A) (f : A → Execution B) → ((a : A) → Stilly x (f a)) →
+    go_on (with_state (stored_in x v) r) f ≡ with_state (stored_in x v) (go_on r f)
 on_apart x v (Gives a σ) f k = (k a).apart v σ
 on_apart x v (Stops why σ) f k = refl
 
@@ -119,7 +121,10 @@ module _ (A : Type 0) (b : Bool) (f : Shared → HostResult (OrFault b A)) where
   performed_apart (Parameter u i) v σ = (settled_still (Parameter u i) (told σ)).apart v (left σ)
 
   performed_still : (x : Slot) → Stilly x (perform b f)
-  performed_still x = record { apart = performed_apart x; ends = λ σ. ends_follows σ (left σ) (settled (told σ) (left σ)) refl ((settled_still x (told σ)).ends (left σ)) }
+  performed_still x = record {
+    apart = performed_apart x;
+    ends = λ σ. ends_follows σ (left σ) (settled (told σ) (left σ)) refl ((settled_still x (told σ)).ends (left σ));
+  }
 
 operated_still : (x : Slot) (o : Operation) (r : Row (arguments o)) → Stilly x (operated o r)
 operated_still x (Host q) r = performed_still _ (can_fault q) (meaning q r) x
@@ -132,7 +137,8 @@ apart_from : (i j : ℕ) → not (nat_eq i j) ≡ true → j ≡ i → ⊥
 apart_from i j h e = eqb-false i j (not-true (nat_eq i j) h) (sym e)
 
 read_still : (x y : Slot) → not (same_slot x y) ≡ true → Stilly x (read_slot y)
-read_still (Global u i) (Global w j) h = looks_still (Global u i) (λ σ. read_as w (global_value j σ)) (λ v σ. ap (read_as w) (get_or-set_other σ.globals i j v value.Uninit (apart_from i j h)))
+read_still (Global u i) (Global w j) h = looks_still (Global u i) (λ σ. read_as w (global_value j σ))
+    (λ v σ. ap (read_as w) (get_or-set_other σ.globals i j v value.Uninit (apart_from i j h)))
 read_still (Global u i) (Parameter w j) h = looks_still (Global u i) (λ σ. read_as w (local_value j σ)) (λ v σ. refl)
 read_still (Parameter u i) (Global w j) h = looks_still (Parameter u i) (λ σ. read_as w (global_value j σ)) (λ v σ. refl)
 read_still (Parameter u i) (Parameter w j) h = looks_still (Parameter u i) (λ σ. read_as w (local_value j σ))
@@ -153,11 +159,13 @@ module _ (x : Slot) (texts : List (List ℕ)) (parameters : List (List Kind)) (n
     unfolding evaluated all_evaluated
 
     pub code_still : (fs : List Form) (env : Env fs) (e : Code) → is_still x e ≡ true → Stilly x (evaluated texts parameters n calls fs env e)
-    code_still fs env (Do o es) h = then_still x (codes_still fs env es h) (λ vs. then_still x (settled_still x (row_of fs (arguments o) es vs)) (λ r. operated_still x o r))
+    code_still fs env (Do o es) h =
+        then_still x (codes_still fs env es h) (λ vs. then_still x (settled_still x (row_of fs (arguments o) es vs)) (λ r. operated_still x o r))
     code_still fs env (Over l es) h = then_still x (codes_still fs env es h) (λ vs. performed_still _ true (listed_meaning l (listing fs es vs)) x)
     code_still fs env (Compare c a b) h =
         let s = and_parts (is_still x a) (is_still x b) h in
-        then_still x (code_still fs env a s.0) (λ v. then_still x (code_still fs env b s.1) (λ w. settled_still x (comparison (boxed (form_of fs a) v) (boxed (form_of fs b) w) c)))
+        then_still x (code_still fs env a s.0) (λ v. then_still x (code_still fs env b s.1)
+        (λ w. settled_still x (comparison (boxed (form_of fs a) v) (boxed (form_of fs b) w) c)))
     code_still fs env (Call f es) h = cc
     code_still fs env Ask h = cc
     code_still fs env (AskLine e) h = cc
@@ -174,8 +182,10 @@ module _ (x : Slot) (texts : List (List ℕ)) (parameters : List (List Kind)) (n
         let t = and_parts (is_still x c) (is_still x a && is_still x b) h in
         let u = and_parts (is_still x a) (is_still x b) t.1 in
         then_still x (code_still fs env c t.0) (λ v.
-        either_still x (truth_in (form_of fs c) v) (evaluated texts parameters n calls fs env a >>= λ w. settled (converted (form_of fs a) s w)) (evaluated texts parameters n calls fs env b >>= λ w. settled (converted (form_of fs b) s w))
-        (then_still x (code_still fs env a u.0) (λ w. settled_still x (converted (form_of fs a) s w))) (then_still x (code_still fs env b u.1) (λ w. settled_still x (converted (form_of fs b) s w))))
+        either_still x (truth_in (form_of fs c) v) (evaluated texts parameters n calls fs env a >>= λ w. settled (converted (form_of fs a) s w))
+        (evaluated texts parameters n calls fs env b >>= λ w. settled (converted (form_of fs b) s w))
+        (then_still x (code_still fs env a u.0) (λ w. settled_still x (converted (form_of fs a) s w)))
+        (then_still x (code_still fs env b u.1) (λ w. settled_still x (converted (form_of fs b) s w))))
     code_still fs env (Seq a b) h =
         let s = and_parts (is_still x a) (is_still x b) h in
         then_still x (code_still fs env a s.0) (λ v. code_still fs env b s.1)
