@@ -1,7 +1,7 @@
 -- Texts that are put behind a boxed name's own: the name gives its text away, and takes the two as one. In a chain it has the text so far while the next one is
 -- evaluated, where the script's state still has the former one: such code does the same whatever the name has.
 use Rattle.std.proofs.Common.{◌≡◌, inl, inr, ℕ, zero, suc, ◌+◌, ◌<◌, ◌≤◌, Bool, true, false, List, [], ◌∷◌, length, None, Some, Result, Ok, Err, refl, sym, ap, ◌∙◌, subst, arith}
-use Rattle.std.specs.Prelude.{◌&&◌, ◌||◌, reverse}
+use Rattle.std.specs.Prelude.{◌&&◌, ◌||◌, nat_eq}
 use Rattle.std.proofs.lemmas.Bool.{and_parts, eqb-true}
 use Rattle.std.proofs.lemmas.List.{set-get_or, set-set, get_or-set_same, length-set, length-map}
 use Rattle.awk_values.specs.declared.fault.Fault.{Fault}
@@ -91,6 +91,10 @@ is_fault why = false
 
 never : {X : Type 0} → false ≡ true → X
 never e = cc
+
+or_false : (t : Bool) → (t || false) ≡ true → t ≡ true
+or_false true h = refl
+or_false false h = h
 
 no_fault : {X : Type 0} (why : Stop) → FaultAlone why → is_fault why ≡ false → X
 no_fault why h e = never (sym e ∙ ap is_fault h.1)
@@ -260,10 +264,90 @@ module _ (p : Program) (deepest : Observer) (ks : List Kind) (F : List Frame) (b
         let D = Done p deepest ks F b M n false e [] tt [] (λ j. There) zero u zero k1 K l (with_global i v σ) in
         carried v (work_of e) σ.turns d K _ D (Appended i u k K l) σ (E e σ) (λ y. call row.Concat (concat_row v (boxed f y))) (whole.ends σ)
         (subst (λ r. Arrives (machine p deepest ks F) M (work_of e) σ.turns (at ks [] K (laid b l) F (Text i e d k) (beside_state p deepest ks F (with_global i v σ))) D (Away p deepest ks F b d K) r) (whole.apart v σ)
-        (ok false [] tt [] (λ j. There) zero u zero d k1 K l (with_global i v σ) so (λ j lt. absurd (omega (arith, lt))) rm ar (ready p deepest ks F b M n u K l (with_global i v σ) s)))
+        (ok false [] tt [] (λ j. There) zero u zero d k1 K l (with_global i v σ) so (λ j lt. absurd (omega (arith, lt))) (omega (arith, rm)) (omega (arith, ar)) (ready p deepest ks F b M n u K l (with_global i v σ) s)))
         (λ y τ c1 le h.
         let l1 = h.next in
         first (machine p deepest ks F) M 0 40 40 τ.turns c1 _ (Appended i u k K l) (Away p deepest ks F b d K) (call row.Concat (concat_row v (boxed f y)) τ) (same_goes h.comes) (omega arith)
         (weaker (machine p deepest ks F) M 40 τ.turns _ (Appended i u k K l1) (Appended i u k K l) (Away p deepest ks F b d K) (Away p deepest ks F b d K) (call row.Concat (concat_row v (boxed f y)) τ)
         (λ z υ c q. record { next = q.next; comes = q.comes; fit = q.fit; iterators = λ x. q.iterators x ∙ h.same.iterators x }) (λ why υ c q. q)
         (put_behind f y v u d k K l1 τ ff h.fit (still_stands e f zero l1 y h.stands))))
+
+    -- A chain.
+
+    record Texts (l e : Code) : Type 0 where
+      before : sorted (context p deepest ks F b M n) [] l ≡ true
+      fit : fits (form_of [] e) sort.Value ≡ true
+      last : sorted (context p deepest ks F b M n) [] e ≡ true
+
+    texts_sorted : (l e : Code) → sorted (context p deepest ks F b M n) [] (Do (Host row.Concat) (At l (At e End))) ≡ true → Texts l e
+    unfolding sorted all_sorted
+    texts_sorted l e so =
+        let ctx = context p deepest ks F b M n in
+        let fx = fits (form_of [] l) sort.Value && (fits (form_of [] e) sort.Value && true) in
+        let sx = sorted ctx [] l && (sorted ctx [] e && true) in
+        let s = and_parts fx sx so in
+        let f = and_parts (fits (form_of [] l) sort.Value) (fits (form_of [] e) sort.Value && true) s.0 in
+        let g = and_parts (sorted ctx [] l) (sorted ctx [] e && true) s.1 in
+        record { before = g.0; fit = (and_parts (fits (form_of [] e) sort.Value) true f.1).0; last = (and_parts (sorted ctx [] e) true g.1).0 }
+
+    name_got : (w : Bool) (σ : State) → E (Get (Global w i)) σ ≡ Gives (read_as w (global_value i σ)) σ
+    unfolding evaluated
+    name_got w σ = refl
+
+    boxed_got : (w : Bool) (v : Value) → boxed (read_form w) (read_as w v) ≡ v
+    boxed_got true v = refl
+    boxed_got false v = refl
+
+    abbrev Chained : Codes → Type 0
+    Chained es =
+        let c = Do (Host row.Concat) es in
+        sorted (context p deepest ks F b M n) [] c ≡ true → room c ≤ b.temporaries → arrays_in c ≤ b.arrays → (u d : ℕ) (k : Instructions) (K : List Label) (l : Locals) (σ : State) → Starts p deepest ks F b M n u K l σ →
+        Reached p deepest ks F b M (work_of c) σ.turns (at ks [] K (laid b l) F (chain_appended (layout p deepest ks F b M n) i c d k) (beside_state p deepest ks F σ)) (Appended i u k K l) (Away p deepest ks F b d K) (E c σ)
+
+    module _ (exprs : (x : Code) → ExprOk p deepest ks F b M n x) where
+      -- the first text goes behind what the name has
+      begun : (w : Bool) (e : Code) → is_still (Global false i) e ≡ true → Chained (At (Get (Global w i)) (At e End))
+      begun w e st so rm ar u d k K l σ s =
+          let c = Do (Host row.Concat) (At (Get (Global w i)) (At e End)) in
+          let f = form_of [] e in
+          let v = global_value i σ in
+          let q = texts_sorted (Get (Global w i)) e so in
+          let means : E c σ ≡ go_on {A = Holds f} {B = Value} (E e σ) (λ y. call row.Concat (concat_row v (boxed f y))) =
+          concat_means (Get (Global w i)) e σ
+          ∙ (ap (λ m. joined (read_form w) f m (E e)) (name_got w σ)
+          ∙ ap (λ z. go_on {A = Holds f} {B = Value} (E e σ) (λ y. call row.Concat (concat_row z (boxed f y)))) (boxed_got w v)) in
+          let from : State → Type 0 = λ τ. Reached p deepest ks F b M (work_of e + 40) σ.turns (at ks [] K (laid b l) F (Text i e d k) (beside_state p deepest ks F τ)) (Appended i u k K l) (Away p deepest ks F b d K) (go_on {A = Holds f} {B = Value} (E e σ) (λ y. call row.Concat (concat_row v (boxed f y)))) in
+          subst (λ r. Reached p deepest ks F b M (work_of c) σ.turns (at ks [] K (laid b l) F (Text i e d k) (beside_state p deepest ks F σ)) (Appended i u k K l) (Away p deepest ks F b d K) r) (sym means)
+          (within (machine p deepest ks F) M (work_of e + 40) (work_of c) σ.turns _ (Appended i u k K l) (Away p deepest ks F b d K) _ (omega arith)
+          (subst from (global_same i σ) (one_ok e (exprs e) st q.fit q.last (omega (arith, rm)) (omega (arith, ar)) v u d k K l σ (subst (Starts p deepest ks F b M n u K l) (sym (global_same i σ)) s))))
+
+      -- another one goes behind the text so far
+      further : (es : Codes) (e : Code) → is_still (Global false i) e ≡ true → Chained es → Chained (At (Do (Host row.Concat) es) (At e End))
+      further es e st ok so rm ar u d k K l σ s =
+          let c0 = Do (Host row.Concat) es in
+          let c = Do (Host row.Concat) (At c0 (At e End)) in
+          let f = form_of [] e in
+          let Q = Away p deepest ks F b d K in
+          let P = Appended i u k K l in
+          let k1 = Text i e d k in
+          let q = texts_sorted c0 e so in
+          subst (λ r. Reached p deepest ks F b M (work_of c) σ.turns (at ks [] K (laid b l) F (chain_appended (layout p deepest ks F b M n) i c0 d k1) (beside_state p deepest ks F σ)) P Q r) (sym (concat_means c0 e σ))
+          (then_on (machine p deepest ks F) M (work_of c0) (work_of e + 40) (work_of c) σ.turns _ (Appended i u k1 K l) P Q (E c0 σ) _ (omega arith)
+          (ok q.before (omega (arith, rm)) (omega (arith, ar)) u d k1 K l σ s)
+          (λ v τ c1 le a.
+          let l1 = a.next in
+          first (machine p deepest ks F) M 0 (work_of e + 40) (work_of e + 40) τ.turns c1 _ P Q _ (same_goes a.comes) (omega arith)
+          (weaker (machine p deepest ks F) M (work_of e + 40) τ.turns _ (Appended i u k K l1) P Q Q _ (λ z υ c2 h. record { next = h.next; comes = h.comes; fit = h.fit; iterators = λ x. h.iterators x ∙ a.iterators x }) (λ why υ c2 h. h)
+          (one_ok e (exprs e) st q.fit q.last (omega (arith, rm)) (omega (arith, ar)) v u d k K l1 τ (starts_after p deepest ks F b M n u K K l l1 σ (with_global i v τ) s refl le a.iterators a.fit)))))
+
+      mutual
+        chain_ok : (es : Codes) → is_chain (Global false i) (Do (Host row.Concat) es) ≡ true → Chained es
+        chain_ok (At l (At e End)) h =
+            let s = and_parts (is_still (Global false i) e) (is_name (Global false i) l || is_chain (Global false i) l) h in
+            head_ok l e s.0 s.1
+        chain_ok es h = never h
+
+        head_ok : (l e : Code) → is_still (Global false i) e ≡ true → (is_name (Global false i) l || is_chain (Global false i) l) ≡ true → Chained (At l (At e End))
+        head_ok (Get (Global w j)) e st h = subst (λ z. Chained (At (Get (Global w z)) (At e End))) (eqb-true i j (or_false (nat_eq i j) h)) (begun w e st)
+        head_ok (Do (Host row.Concat) es) e st h = further es e st (chain_ok es h)
+        head_ok l e st h = never h
