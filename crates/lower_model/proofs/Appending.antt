@@ -18,9 +18,9 @@ use Rattle.mid_program.specs.declared.mid.Operation.TheVariants.{Host}
 use Rattle.mid_program.specs.Mid.{Kind, Boxed, Program, Declared, Slot, Global, Parameter, Code, Do, Get, Set, Codes, End, At, Eval, Form, PrimitiveAnswer, a_value, form_of, read_form}
 use Rattle.mid_program.specs.MidMeaning.{Holds, boxed, read_as, row_of, evaluated, all_evaluated, stepped}
 use Rattle.mid_program.specs.Sorted.{There, calls_of, has_kind, kinds_of, is_slot, takes, fits, fit_row, sorted, all_sorted}
-use Rattle.sem_scripts.specs.ScriptState.{State, Stop, Faulted, OutOfTurns, TooDeep, Nexted, Exited, Returned, Outcome, Gives, Stops, Execution, go_on, give, settled, call, global_value, with_global}
+use Rattle.sem_scripts.specs.ScriptState.{State, Stop, Faulted, OutOfTurns, TooDeep, Nexted, Exited, Returned, Outcome, Gives, Stops, Execution, go_on, ◌>>◌, give, change, settled, call, global_value, with_global}
 use Rattle.sem_scripts.specs.Statements.{Flow, Normal}
-use Rattle.lower_model.specs.Appends.{same_slot, is_still, is_name, is_chain}
+use Rattle.lower_model.specs.Appends.{is_still, is_name, is_chain, Append, append_of, append_in}
 use Rattle.lower_model.specs.Cells.{Cell, Held, Gone, is_owned}
 use Rattle.lower_model.specs.ImportCalls.{Acts, replied, primitive_acts}
 use Rattle.host_imports.specs.declared.import.Import.TheVariants.{OfPrimitive}
@@ -45,12 +45,23 @@ use Rattle.lower_model.proofs.Relation.{HoldsAt, Fit, fit_hand, fit_more, fit_le
 use Rattle.lower_model.proofs.Answers.{machine, beside_state, done_by, answered_by, reply, Reached}
 use Rattle.lower_model.proofs.Converting.{Converted, converted_ok}
 use Rattle.lower_model.proofs.HostCalls.{calm_after}
+use Rattle.lower_model.proofs.QuickNames.{none_is, some_is}
 use Rattle.lower_model.proofs.Reading.{kind_below, kind_found}
 use Rattle.lower_model.proofs.SettingNames.{boxed_written}
-use Rattle.lower_model.proofs.Simulation.{work_of, context, layout, meant, Done, ExprOk, still_stands}
+use Rattle.lower_model.proofs.Simulation.{work_of, room_one, context, layout, meant, Done, ExprOk, still_stands}
 use Rattle.lower_model.proofs.StatementForms.{flows_on, plain_meant, Starts, ready, starts_after, StepDone}
 use Rattle.lower_model.proofs.Still.{with_state, FaultAlone, EndsStill, code_still}
 use Rattle.lower_model.proofs.Written.{fit_global}
+
+-- Which code is such a step.
+
+pub append_is : (e : Code) (q : Append) → append_in e ≡ Some q → (e ≡ Set (Global false q.target) q.chain) × (is_chain (Global false q.target) q.chain ≡ true)
+append_is (Set (Global false i) c) q h = by (is_chain (Global false i) c) refl h
+  where
+    by : (t : Bool) → is_chain (Global false i) c ≡ t → append_of i c t ≡ Some q → (Set (Global false i) c ≡ Set (Global false q.target) q.chain) × (is_chain (Global false q.target) q.chain ≡ true)
+    by true e1 e2 = subst (λ (a : Append). (Set (Global false i) c ≡ Set (Global false a.target) a.chain) × (is_chain (Global false a.target) a.chain ≡ true)) (some_is (record { target = i; chain = c }) q e2) (refl, e1)
+    by false e1 e2 = none_is e2
+append_is e q h = none_is h
 
 -- What such code means.
 
@@ -158,11 +169,11 @@ module _ (p : Program) (deepest : Observer) (ks : List Kind) (F : List Frame) (b
     pub fit : Fit p deepest ks F 0 u 0 next (with_global i z σ)
     pub iterators : (x : ℕ) → next.iterator x ≡ l.iterator x
 
-  abbrev Lost : Type 0
+  abbrev pub Lost : Type 0
   Lost = (i : ℕ) (v : Value) (x : Fault) (u d : ℕ) (K : List Label) (l : Locals) (σ : State) → has_kind kinds i Boxed ≡ true → Fit p deepest ks F 0 u 0 l (with_global i v σ) →
       Away p deepest ks F b d K (Faulted x) σ (br d ks K (laid b l) F (storing (given_away i (with_global i v σ)) (host_of σ (Some x))))
 
-  abbrev Less : Type 0
+  abbrev pub Less : Type 0
   Less = (i : ℕ) (v : Value) (x : Fault) (d : ℕ) (K : List Label) (τ : State) (c : Conf) → has_kind kinds i Boxed ≡ true → Away p deepest ks F b d K (Faulted x) (with_global i v τ) c → Away p deepest ks F b d K (Faulted x) τ c
 
   module _ (lost : Lost) (less : Less) (i : ℕ) (hk : has_kind kinds i Boxed ≡ true) (roomy : 0 < b.temporaries) where
@@ -341,7 +352,7 @@ module _ (p : Program) (deepest : Observer) (ks : List Kind) (F : List Frame) (b
           (one_ok e (exprs e) st q.fit q.last (omega (arith, rm)) (omega (arith, ar)) v u d k K l1 τ (starts_after p deepest ks F b M n u K K l l1 σ (with_global i v τ) s refl le a.iterators a.fit)))))
 
       mutual
-        chain_ok : (es : Codes) → is_chain (Global false i) (Do (Host row.Concat) es) ≡ true → Chained es
+        pub chain_ok : (es : Codes) → is_chain (Global false i) (Do (Host row.Concat) es) ≡ true → Chained es
         chain_ok (At l (At e End)) h =
             let s = and_parts (is_still (Global false i) e) (is_name (Global false i) l || is_chain (Global false i) l) h in
             head_ok l e s.0 s.1
@@ -351,3 +362,38 @@ module _ (p : Program) (deepest : Observer) (ks : List Kind) (F : List Frame) (b
         head_ok (Get (Global w j)) e st h = subst (λ z. Chained (At (Get (Global w z)) (At e End))) (eqb-true i j (or_false (nat_eq i j) h)) (begun w e st)
         head_ok (Do (Host row.Concat) es) e st h = further es e st (chain_ok es h)
         head_ok l e st h = never h
+
+  -- The whole statement.
+
+  stored_by : (i : ℕ) (o : Outcome Value) → go_on {A = Value} {B = Flow} (go_on {A = Value} {B = Value} o (λ v. change (with_global i v) >> give v)) (λ v. give Normal) ≡ go_on {A = Value} {B = Flow} o (λ v τ. Gives Normal (with_global i v τ))
+  stored_by i (Gives v τ) = refl
+  stored_by i (Stops why τ) = refl
+
+  statement_means : (i : ℕ) (es : Codes) (σ : State) → plain_meant p deepest ks F b M n (Eval (Set (Global false i) (Do (Host row.Concat) es))) σ ≡ go_on {A = Value} {B = Flow} (E (Do (Host row.Concat) es) σ) (λ v τ. Gives Normal (with_global i v τ))
+  unfolding evaluated stepped
+  statement_means i es σ = stored_by i (E (Do (Host row.Concat) es) σ)
+
+  target_sorted : (i : ℕ) (c : Code) → sorted (context p deepest ks F b M n) [] (Set (Global false i) c) ≡ true → (has_kind kinds i Boxed ≡ true) × (sorted (context p deepest ks F b M n) [] c ≡ true)
+  unfolding sorted all_sorted
+  target_sorted i c so =
+      let ctx = context p deepest ks F b M n in
+      let s = and_parts (is_slot ctx (Global false i)) (takes (Global false i) (form_of [] c) && sorted ctx [] c) so in
+      (s.0, (and_parts (takes (Global false i) (form_of [] c)) (sorted ctx [] c) s.1).1)
+
+  pub appended_ok : Lost → Less → (i : ℕ) (c : Code) → is_chain (Global false i) c ≡ true → ((x : Code) → ExprOk p deepest ks F b M n x) → (lo : Bool) (u d bk ct : ℕ) (k : Instructions) (K : List Label) (l : Locals) (σ : State) →
+      sorted (context p deepest ks F b M n) [] (Set (Global false i) c) ≡ true → room c ≤ b.temporaries → arrays_in c ≤ b.arrays → Starts p deepest ks F b M n u K l σ →
+      Reached p deepest ks F b M (work_of c) σ.turns (at ks [] K (laid b l) F (chain_appended (layout p deepest ks F b M n) i c d k) (beside_state p deepest ks F σ)) (StepDone p deepest ks F b M n lo u bk ct k K l) (Away p deepest ks F b d K)
+      (plain_meant p deepest ks F b M n (Eval (Set (Global false i) c)) σ)
+  appended_ok lost less i (Do (Host row.Concat) es) h exprs lo u d bk ct k K l σ so rm ar s =
+      let c = Do (Host row.Concat) es in
+      let q = target_sorted i c so in
+      let P = StepDone p deepest ks F b M n lo u bk ct k K l in
+      let Q = Away p deepest ks F b d K in
+      let r1 = room_one c in
+      subst (λ r. Reached p deepest ks F b M (work_of c) σ.turns (at ks [] K (laid b l) F (chain_appended (layout p deepest ks F b M n) i c d k) (beside_state p deepest ks F σ)) P Q r) (sym (statement_means i es σ))
+      (then_on (machine p deepest ks F) M (work_of c) 0 (work_of c) σ.turns _ (Appended i u k K l) P Q (E c σ) _ (omega arith)
+      (chain_ok lost less i q.0 (omega (arith, rm, r1)) exprs es h q.1 rm ar u d k K l σ s)
+      (λ v τ c1 le a.
+      there (machine p deepest ks F) M 0 0 c1 c1 Normal (with_global i v τ) P Q stays (omega arith)
+      (record { next = a.next; comes = a.comes; starts = starts_after p deepest ks F b M n u K K l a.next σ (with_global i v τ) s refl le a.iterators a.fit; iterators = a.iterators; flows = flows_on lo })))
+  appended_ok lost less i c h exprs lo u d bk ct k K l σ so rm ar s = never h
