@@ -43,6 +43,7 @@ use Rattle.lower_model.proofs.Calls.{called}
 use Rattle.lower_model.proofs.State.{cells_of, host_of, kind_here, arrays_before, name_hand}
 use Rattle.lower_model.proofs.Relation.{HoldsAt, Fit, fit_hand, fit_more, fit_less, fit_shared, Away}
 use Rattle.lower_model.proofs.Answers.{machine, beside_state, done_by, answered_by, reply, Reached}
+use Rattle.lower_model.proofs.Chains.{never}
 use Rattle.lower_model.proofs.Converting.{Converted, converted_ok}
 use Rattle.lower_model.proofs.HostCalls.{calm_after}
 use Rattle.lower_model.proofs.QuickNames.{none_is, some_is}
@@ -100,9 +101,6 @@ abbrev is_fault : Stop → Bool
 is_fault (Faulted x) = true
 is_fault why = false
 
-never : {X : Type 0} → false ≡ true → X
-never e = cc
-
 or_false : (t : Bool) → (t || false) ≡ true → t ≡ true
 or_false true h = refl
 or_false false h = h
@@ -130,6 +128,31 @@ module _ (p : Program) (deepest : Observer) (ks : List Kind) (F : List Frame) (b
   pub concat_means : (l r : Code) (σ : State) → E (Do (Host row.Concat) (At l (At r End))) σ ≡ joined (form_of [] l) (form_of [] r) (E l σ) (E r)
   unfolding evaluated all_evaluated
   concat_means l r σ = concat_by (form_of [] l) (form_of [] r) (E l σ) (E r)
+
+  -- What is known of such code.
+
+  pub record Texts (l e : Code) : Type 0 where
+    pub before : sorted (context p deepest ks F b M n) [] l ≡ true
+    pub fit : fits (form_of [] e) sort.Value ≡ true
+    pub last : sorted (context p deepest ks F b M n) [] e ≡ true
+
+  pub texts_sorted : (l e : Code) → sorted (context p deepest ks F b M n) [] (Do (Host row.Concat) (At l (At e End))) ≡ true → Texts l e
+  unfolding sorted all_sorted
+  texts_sorted l e so =
+      let ctx = context p deepest ks F b M n in
+      let fx = fits (form_of [] l) sort.Value && (fits (form_of [] e) sort.Value && true) in
+      let sx = sorted ctx [] l && (sorted ctx [] e && true) in
+      let s = and_parts fx sx so in
+      let f = and_parts (fits (form_of [] l) sort.Value) (fits (form_of [] e) sort.Value && true) s.0 in
+      let g = and_parts (sorted ctx [] l) (sorted ctx [] e && true) s.1 in
+      record { before = g.0; fit = (and_parts (fits (form_of [] e) sort.Value) true f.1).0; last = (and_parts (sorted ctx [] e) true g.1).0 }
+
+  pub target_sorted : (i : ℕ) (c : Code) → sorted (context p deepest ks F b M n) [] (Set (Global false i) c) ≡ true → (has_kind kinds i Boxed ≡ true) × (sorted (context p deepest ks F b M n) [] c ≡ true)
+  unfolding sorted all_sorted
+  target_sorted i c so =
+      let ctx = context p deepest ks F b M n in
+      let s = and_parts (is_slot ctx (Global false i)) (takes (Global false i) (form_of [] c) && sorted ctx [] c) so in
+      (s.0, (and_parts (takes (Global false i) (form_of [] c)) (sorted ctx [] c) s.1).1)
 
   -- where a name has given its value away
   abbrev pub given_away : ℕ → State → List Cell
@@ -285,22 +308,6 @@ module _ (p : Program) (deepest : Observer) (ks : List Kind) (F : List Frame) (b
 
     -- A chain.
 
-    record Texts (l e : Code) : Type 0 where
-      before : sorted (context p deepest ks F b M n) [] l ≡ true
-      fit : fits (form_of [] e) sort.Value ≡ true
-      last : sorted (context p deepest ks F b M n) [] e ≡ true
-
-    texts_sorted : (l e : Code) → sorted (context p deepest ks F b M n) [] (Do (Host row.Concat) (At l (At e End))) ≡ true → Texts l e
-    unfolding sorted all_sorted
-    texts_sorted l e so =
-        let ctx = context p deepest ks F b M n in
-        let fx = fits (form_of [] l) sort.Value && (fits (form_of [] e) sort.Value && true) in
-        let sx = sorted ctx [] l && (sorted ctx [] e && true) in
-        let s = and_parts fx sx so in
-        let f = and_parts (fits (form_of [] l) sort.Value) (fits (form_of [] e) sort.Value && true) s.0 in
-        let g = and_parts (sorted ctx [] l) (sorted ctx [] e && true) s.1 in
-        record { before = g.0; fit = (and_parts (fits (form_of [] e) sort.Value) true f.1).0; last = (and_parts (sorted ctx [] e) true g.1).0 }
-
     name_got : (w : Bool) (σ : State) → E (Get (Global w i)) σ ≡ Gives (read_as w (global_value i σ)) σ
     unfolding evaluated
     name_got w σ = refl
@@ -372,13 +379,6 @@ module _ (p : Program) (deepest : Observer) (ks : List Kind) (F : List Frame) (b
   statement_means : (i : ℕ) (es : Codes) (σ : State) → plain_meant p deepest ks F b M n (Eval (Set (Global false i) (Do (Host row.Concat) es))) σ ≡ go_on {A = Value} {B = Flow} (E (Do (Host row.Concat) es) σ) (λ v τ. Gives Normal (with_global i v τ))
   unfolding evaluated stepped
   statement_means i es σ = stored_by i (E (Do (Host row.Concat) es) σ)
-
-  target_sorted : (i : ℕ) (c : Code) → sorted (context p deepest ks F b M n) [] (Set (Global false i) c) ≡ true → (has_kind kinds i Boxed ≡ true) × (sorted (context p deepest ks F b M n) [] c ≡ true)
-  unfolding sorted all_sorted
-  target_sorted i c so =
-      let ctx = context p deepest ks F b M n in
-      let s = and_parts (is_slot ctx (Global false i)) (takes (Global false i) (form_of [] c) && sorted ctx [] c) so in
-      (s.0, (and_parts (takes (Global false i) (form_of [] c)) (sorted ctx [] c) s.1).1)
 
   pub appended_ok : Lost → Less → (i : ℕ) (c : Code) → is_chain (Global false i) c ≡ true → ((x : Code) → ExprOk p deepest ks F b M n x) → (lo : Bool) (u d bk ct : ℕ) (k : Instructions) (K : List Label) (l : Locals) (σ : State) →
       sorted (context p deepest ks F b M n) [] (Set (Global false i) c) ≡ true → room c ≤ b.temporaries → arrays_in c ≤ b.arrays → Starts p deepest ks F b M n u K l σ →

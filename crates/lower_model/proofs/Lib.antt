@@ -45,6 +45,7 @@ pub mod Tallying
 pub mod QuickParts
 pub mod Remainders
 pub mod Still
+pub mod Chains
 pub mod Appending
 pub mod Evaluating
 pub mod QuickSteps
