@@ -20,7 +20,7 @@ use Rattle.mid_program.specs.MidMeaning.{Holds, boxed, read_as, row_of, evaluate
 use Rattle.mid_program.specs.Sorted.{There, calls_of, has_kind, kinds_of, is_slot, takes, fits, fit_row, sorted, all_sorted}
 use Rattle.sem_scripts.specs.ScriptState.{State, Stop, Faulted, OutOfTurns, TooDeep, Nexted, Exited, Returned, Outcome, Gives, Stops, Execution, go_on, ◌>>◌, give, change, settled, call, global_value, with_global}
 use Rattle.sem_scripts.specs.Statements.{Flow, Normal}
-use Rattle.lower_model.specs.Appends.{is_still, is_name, is_chain, Append, append_of, append_in}
+use Rattle.lower_model.specs.Appends.{is_still, is_name, is_chain}
 use Rattle.lower_model.specs.Cells.{Cell, Held, Gone, is_owned}
 use Rattle.lower_model.specs.ImportCalls.{Acts, replied, primitive_acts}
 use Rattle.host_imports.specs.declared.import.Import.TheVariants.{OfPrimitive}
@@ -43,26 +43,14 @@ use Rattle.lower_model.proofs.Calls.{called}
 use Rattle.lower_model.proofs.State.{cells_of, host_of, kind_here, arrays_before, name_hand}
 use Rattle.lower_model.proofs.Relation.{HoldsAt, Fit, fit_hand, fit_more, fit_less, fit_shared, Away}
 use Rattle.lower_model.proofs.Answers.{machine, beside_state, done_by, answered_by, reply, Reached}
-use Rattle.lower_model.proofs.Chains.{never}
 use Rattle.lower_model.proofs.Converting.{Converted, converted_ok}
 use Rattle.lower_model.proofs.HostCalls.{calm_after}
-use Rattle.lower_model.proofs.QuickNames.{none_is, some_is}
 use Rattle.lower_model.proofs.Reading.{kind_below, kind_found}
 use Rattle.lower_model.proofs.SettingNames.{boxed_written}
 use Rattle.lower_model.proofs.Simulation.{work_of, room_one, context, layout, meant, Done, ExprOk, still_stands}
 use Rattle.lower_model.proofs.StatementForms.{flows_on, plain_meant, Starts, ready, starts_after, StepDone}
 use Rattle.lower_model.proofs.Still.{with_state, FaultAlone, EndsStill, code_still}
 use Rattle.lower_model.proofs.Written.{fit_global}
-
--- Which code is such a step.
-
-pub append_is : (e : Code) (q : Append) → append_in e ≡ Some q → (e ≡ Set (Global false q.target) q.chain) × (is_chain (Global false q.target) q.chain ≡ true)
-append_is (Set (Global false i) c) q h = by (is_chain (Global false i) c) refl h
-  where
-    by : (t : Bool) → is_chain (Global false i) c ≡ t → append_of i c t ≡ Some q → (Set (Global false i) c ≡ Set (Global false q.target) q.chain) × (is_chain (Global false q.target) q.chain ≡ true)
-    by true e1 e2 = subst (λ (a : Append). (Set (Global false i) c ≡ Set (Global false a.target) a.chain) × (is_chain (Global false a.target) a.chain ≡ true)) (some_is (record { target = i; chain = c }) q e2) (refl, e1)
-    by false e1 e2 = none_is e2
-append_is e q h = none_is h
 
 -- What such code means.
 
@@ -104,6 +92,9 @@ is_fault why = false
 or_false : (t : Bool) → (t || false) ≡ true → t ≡ true
 or_false true h = refl
 or_false false h = h
+
+never : {X : Type 0} → false ≡ true → X
+never e = cc
 
 no_fault : {X : Type 0} (why : Stop) → FaultAlone why → is_fault why ≡ false → X
 no_fault why h e = never (sym e ∙ ap is_fault h.1)

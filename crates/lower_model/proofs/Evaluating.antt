@@ -20,7 +20,8 @@ use Rattle.lower_model.proofs.Sequences.{dropped_ok}
 use Rattle.lower_model.proofs.Tallies.{tally_is}
 use Rattle.lower_model.proofs.Tallying.{tallied_ok}
 use Rattle.lower_model.proofs.Remainders.{IsRemainder, remainder_is, remainder_ok, remainder_code}
-use Rattle.lower_model.proofs.Appending.{Lost, Less, append_is, appended_ok}
+use Rattle.lower_model.proofs.Appending.{Lost, Less, appended_ok}
+use Rattle.lower_model.proofs.Chains.{append_is}
 use Rattle.lower_model.proofs.Updating.{added_is, updated_ok}
 
 module _ (p : Program) (deepest : Observer) (ks : List Kind) (F : List Frame) (b : Bases) (M n : ℕ) where
@@ -39,9 +40,9 @@ module _ (p : Program) (deepest : Observer) (ks : List Kind) (F : List Frame) (b
     alone_ok lost less None e eq = λ so rm ar. dropped_ok p deepest ks F b M n e (exprs e) lo u d bk ct k K l σ so rm ar s
     alone_ok lost less (Some q) e eq =
         let t = append_is e q eq in
-        subst (Does (appended_dropped (layout p deepest ks F b M n) (Some q) e d k) 8) (sym t.0)
+        subst (Does (appended_dropped (layout p deepest ks F b M n) (Some q) e d k) 8) (sym t.code)
         (λ so rm ar. within (machine p deepest ks F) M (work_of q.chain) _ σ.turns _ (StepDone p deepest ks F b M n lo u bk ct k K l) (Away p deepest ks F b d K) _ (omega arith)
-        (appended_ok p deepest ks F b M n lost less q.target q.chain t.1 exprs lo u d bk ct k K l σ so rm ar s))
+        (appended_ok p deepest ks F b M n lost less q.target q.chain t.so exprs lo u d bk ct k K l σ so rm ar s))
 
     rest_ok : Lost p deepest ks F b M n → Less p deepest ks F b M n → (o : Option Remainder) (e : Code) → remainder_in e ≡ o → Does (remainder_dropped (layout p deepest ks F b M n) o e d k) 30 e
     rest_ok lost less None e eq = more (remainder_dropped (layout p deepest ks F b M n) None e d k) 8 30 e (omega arith) (alone_ok lost less (append_in e) e refl)
