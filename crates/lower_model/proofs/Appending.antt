@@ -43,6 +43,7 @@ use Rattle.lower_model.proofs.Calls.{called}
 use Rattle.lower_model.proofs.State.{cells_of, host_of, kind_here, arrays_before, name_hand}
 use Rattle.lower_model.proofs.Relation.{HoldsAt, Fit, fit_hand, fit_more, fit_less, fit_shared, Away}
 use Rattle.lower_model.proofs.Answers.{machine, beside_state, done_by, answered_by, reply, Reached}
+use Rattle.lower_model.proofs.Chains.{texts_sorted, target_sorted}
 use Rattle.lower_model.proofs.Converting.{Converted, converted_ok}
 use Rattle.lower_model.proofs.HostCalls.{calm_after}
 use Rattle.lower_model.proofs.Reading.{kind_below, kind_found}
@@ -119,31 +120,6 @@ module _ (p : Program) (deepest : Observer) (ks : List Kind) (F : List Frame) (b
   pub concat_means : (l r : Code) (σ : State) → E (Do (Host row.Concat) (At l (At r End))) σ ≡ joined (form_of [] l) (form_of [] r) (E l σ) (E r)
   unfolding evaluated all_evaluated
   concat_means l r σ = concat_by (form_of [] l) (form_of [] r) (E l σ) (E r)
-
-  -- What is known of such code.
-
-  pub record Texts (l e : Code) : Type 0 where
-    pub before : sorted (context p deepest ks F b M n) [] l ≡ true
-    pub fit : fits (form_of [] e) sort.Value ≡ true
-    pub last : sorted (context p deepest ks F b M n) [] e ≡ true
-
-  pub texts_sorted : (l e : Code) → sorted (context p deepest ks F b M n) [] (Do (Host row.Concat) (At l (At e End))) ≡ true → Texts l e
-  unfolding sorted all_sorted
-  texts_sorted l e so =
-      let ctx = context p deepest ks F b M n in
-      let fx = fits (form_of [] l) sort.Value && (fits (form_of [] e) sort.Value && true) in
-      let sx = sorted ctx [] l && (sorted ctx [] e && true) in
-      let s = and_parts fx sx so in
-      let f = and_parts (fits (form_of [] l) sort.Value) (fits (form_of [] e) sort.Value && true) s.0 in
-      let g = and_parts (sorted ctx [] l) (sorted ctx [] e && true) s.1 in
-      record { before = g.0; fit = (and_parts (fits (form_of [] e) sort.Value) true f.1).0; last = (and_parts (sorted ctx [] e) true g.1).0 }
-
-  pub target_sorted : (i : ℕ) (c : Code) → sorted (context p deepest ks F b M n) [] (Set (Global false i) c) ≡ true → (has_kind kinds i Boxed ≡ true) × (sorted (context p deepest ks F b M n) [] c ≡ true)
-  unfolding sorted all_sorted
-  target_sorted i c so =
-      let ctx = context p deepest ks F b M n in
-      let s = and_parts (is_slot ctx (Global false i)) (takes (Global false i) (form_of [] c) && sorted ctx [] c) so in
-      (s.0, (and_parts (takes (Global false i) (form_of [] c)) (sorted ctx [] c) s.1).1)
 
   -- where a name has given its value away
   abbrev pub given_away : ℕ → State → List Cell
@@ -320,7 +296,7 @@ module _ (p : Program) (deepest : Observer) (ks : List Kind) (F : List Frame) (b
           let c = Do (Host row.Concat) (At (Get (Global w i)) (At e End)) in
           let f = form_of [] e in
           let v = global_value i σ in
-          let q = texts_sorted (Get (Global w i)) e so in
+          let q = texts_sorted p ks (Get (Global w i)) e so in
           let means : E c σ ≡ go_on {A = Holds f} {B = Value} (E e σ) (λ y. call row.Concat (concat_row v (boxed f y))) =
           concat_means (Get (Global w i)) e σ
           ∙ (ap (λ m. joined (read_form w) f m (E e)) (name_got w σ)
@@ -339,7 +315,7 @@ module _ (p : Program) (deepest : Observer) (ks : List Kind) (F : List Frame) (b
           let Q = Away p deepest ks F b d K in
           let P = Appended i u k K l in
           let k1 = Text i e d k in
-          let q = texts_sorted c0 e so in
+          let q = texts_sorted p ks c0 e so in
           subst (λ r. Reached p deepest ks F b M (work_of c) σ.turns (at ks [] K (laid b l) F (chain_appended (layout p deepest ks F b M n) i c0 d k1) (beside_state p deepest ks F σ)) P Q r) (sym (concat_means c0 e σ))
           (then_on (machine p deepest ks F) M (work_of c0) (work_of e + 40) (work_of c) σ.turns _ (Appended i u k1 K l) P Q (E c0 σ) _ (omega arith)
           (ok q.before (omega (arith, rm)) (omega (arith, ar)) u d k1 K l σ s)
@@ -377,7 +353,7 @@ module _ (p : Program) (deepest : Observer) (ks : List Kind) (F : List Frame) (b
       (plain_meant p deepest ks F b M n (Eval (Set (Global false i) c)) σ)
   appended_ok lost less i (Do (Host row.Concat) es) h exprs lo u d bk ct k K l σ so rm ar s =
       let c = Do (Host row.Concat) es in
-      let q = target_sorted i c so in
+      let q = target_sorted p ks i c so in
       let P = StepDone p deepest ks F b M n lo u bk ct k K l in
       let Q = Away p deepest ks F b d K in
       let r1 = room_one c in
