@@ -129,6 +129,8 @@ module _ (p : Program) (deepest : Observer) (ks : List Kind) (F : List Frame) (b
           leaves : Fit p deepest ks F q i w (with_at l (Hand t) empty) σ → Away p deepest ks F b d K (Faulted g) σ (br d ks K (laid b (with_at (with_at l (Hand t) empty) (NumberAt t) (Bits (I64 least)))) F (left_beside p deepest ks F (Faulted g) σ))
           leaves f1 = record {
             next = with_at (with_at l (Hand t) empty) (NumberAt t) (Bits (I64 least));
+            was = σ;
+            seen = refl;
             comes = refl;
             loose = fit_loose p deepest ks F q i w (with_at (with_at l (Hand t) empty) (NumberAt t) (Bits (I64 least))) σ (fit_number p deepest ks F t q i w (with_at l (Hand t) empty) σ (Bits (I64 least)) refl f1);
             answer = f1.answer;

@@ -142,7 +142,15 @@ module _ (p : Program) (deepest : Observer) (ks : List Kind) (F : List Frame) (b
   }
 
   left_with : (q u w d : ℕ) (K : List Label) (l : Locals) (σ : State) (f : Fault) → Fit p deepest ks F q u w l σ → Away p deepest ks F b d K (Faulted f) σ (br d ks K (laid b l) F (left_beside p deepest ks F (Faulted f) σ))
-  left_with q u w d K l σ f ft = record { next = l; comes = refl; loose = fit_loose p deepest ks F q u w l σ ft; answer = ft.answer; after = tt }
+  left_with q u w d K l σ f ft = record {
+    next = l;
+    was = σ;
+    seen = refl;
+    comes = refl;
+    loose = fit_loose p deepest ks F q u w l σ ft;
+    answer = ft.answer;
+    after = tt;
+  }
 
   -- both come onto the stack, and what an operator gives of them
   computed_ok : {K : List Label} {k : Instructions} → (op : IBinOp) (x y : Number) (m t u w : ℕ) (l : Locals) (σ : State) → suc t < b.temporaries → Pair x y t u w l σ → binary_at w64 op (number_word x) (number_word y) ≡ Ok m →

@@ -1,16 +1,17 @@
 -- `main` from where its names are made to its end, if reading and assignments do what they mean.
-use Rattle.std.proofs.Common.{◌≡◌, ℕ, zero, suc, ◌+◌, ◌≤◌, Bool, true, false, List, [], ◌∷◌, Some, None, refl, ap, arith}
+use Rattle.std.proofs.Common.{◌≡◌, ℕ, zero, suc, ◌+◌, ◌≤◌, Bool, true, false, List, [], ◌∷◌, Some, None, refl, sym, ap, ◌∙◌, arith}
 use Rattle.std.specs.Prelude.{if◌then◌else◌}
+use Rattle.sem_primitives.specs.SharedState.{Shared}
 use Rattle.sem_primitives.specs.declared.table.Primitive.TheVariants as row
 use Rattle.wasm_types.specs.Syntax.{Instructions, Done}
 use Rattle.wasm_types.specs.declared.instr.Simple.TheVariants.{Br}
 use Rattle.mid_program.specs.Mid.{Program, Code, Steps}
-use Rattle.sem_scripts.specs.ScriptRun.{first_assigned, records_done, part}
+use Rattle.sem_scripts.specs.ScriptRun.{FaultedBy, first_assigned, records_done, part}
 use Rattle.sem_scripts.specs.ScriptState.{State, Stop, Faulted, OutOfTurns, TooDeep, Nexted, Exited, Returned, Outcome, Gives, Stops, Execution, ◌>>=◌, ◌>>◌, call, nothing}
 use Rattle.mid_program.specs.Sorted.{calls_of, context_of, steps_sorted}
 use Rattle.lower_model.specs.Emission.{asked}
 use Rattle.lower_model.specs.Functions.{layout_of}
-use Rattle.lower_model.specs.Machine.{Conf, Label, at, label, ending_at}
+use Rattle.lower_model.specs.Machine.{Conf, Deep, Label, at, label, ending_at}
 use Rattle.lower_model.specs.Noted.{noted_called, noted_done, begin_rest, out_of_part}
 use Rattle.lower_model.specs.Places.{Bases, steps_room, steps_iterators, steps_arrays}
 use Rattle.lower_model.specs.Small.{emit as instruction, ask_row}
@@ -37,9 +38,15 @@ module _ (p : Program) (deepest : Observer) (b : Bases) (M n : ℕ) where
   -- `main` is left for good
   left_ends : (why : Stop) (σ : State) (c : Conf) → zero ≡ b.parameters → Left p deepest b M n zero exit_labels why σ c → Onward (machine p deepest [] []) M (main_exit_work b) (EndsWell (Stops why σ)) c
   left_ends (Faulted f) σ c none h =
-      let e = main_ends p deepest b h.way (Some f) h.next σ none h.loose h.answer in
-      record { conf = _; steps = e.steps; few = e.few; goes = goes_from h.comes e.goes; holds = refl }
-  left_ends TooDeep σ c none h = record { conf = c; steps = 0; few = omega arith; goes = stays; holds = ap ending_at h.comes }
+      let e = main_ends p deepest b h.way (Some f) h.next h.was none h.loose h.answer in
+      record { conf = _; steps = e.steps; few = e.few; goes = goes_from h.comes e.goes; holds = ap (λ (x : Shared). Some (FaultedBy f x.output)) (sym h.seen) }
+  left_ends TooDeep σ c none h = record {
+    conf = c;
+    steps = 0;
+    few = omega arith;
+    goes = stays;
+    holds = ap ending_at h.comes ∙ ap (λ x. ending_at (Deep (beside_state p deepest [] [] x))) (sym h.seen);
+  }
   left_ends OutOfTurns σ c none h = absurd h.good
   left_ends Nexted σ c none h = absurd h.good
   left_ends Exited σ c none h = absurd h.good

@@ -114,4 +114,4 @@ module _ (p : Program) (deepest : Observer) (ks : List Kind) (F : List Frame) (b
           Reached p deepest ks F b M 3 τ.turns (at ks (Bits (flag (not y)) ∷ []) K (laid b l1) F (fail_if NoField d k) (beside_state p deepest ks F τ)) P (Away p deepest ks F b d K) (settled (if y then Ok x else Err NoField) τ)
       checked x d k K l1 τ P true t u w ft q = there (machine p deepest ks F) M 3 2 _ _ x τ P (Away p deepest ks F b d K) (passes_ok NoField d τ) (omega arith) q
       checked x d k K l1 τ P false t u w ft q = faulted (machine p deepest ks F) M 3 3 _ _ NoField τ P (Away p deepest ks F b d K) (fails_ok NoField d τ) (omega arith)
-          (record { next = l1; comes = refl; loose = fit_loose p deepest ks F t u w l1 τ ft; answer = ft.answer; after = tt })
+          (record { next = l1; was = τ; seen = refl; comes = refl; loose = fit_loose p deepest ks F t u w l1 τ ft; answer = ft.answer; after = tt })

@@ -1,5 +1,5 @@
 -- The parts of `main`: its steps, what is done for a record, which `next` ends, and a part, which `exit` ends. `main` has no parameters, and nobody waits for it.
-use Rattle.std.proofs.Common.{◌≡◌, inl, ℕ, zero, suc, ◌+◌, ◌*◌, ◌<◌, ◌≤◌, true, false, List, [], ◌∷◌, ◌++◌, length, Some, None, Option, Result, Err, refl, ap, ap₂, ◌∙◌, arith}
+use Rattle.std.proofs.Common.{◌≡◌, inl, ℕ, zero, suc, ◌+◌, ◌*◌, ◌<◌, ◌≤◌, true, false, List, [], ◌∷◌, ◌++◌, length, Some, None, Option, Result, Err, refl, sym, ap, ap₂, ◌∙◌, arith}
 use Rattle.awk_values.specs.declared.fault.Fault.{Fault}
 use Rattle.awk_values.specs.declared.fault.Fault.TheVariants.{NextOutside}
 use Rattle.awk_values.specs.Faults.{fault_number}
@@ -32,7 +32,7 @@ use Rattle.lower_model.proofs.Locals.{Locals, laid}
 use Rattle.lower_model.proofs.Steps.{empty, unanswered}
 use Rattle.lower_model.proofs.Calls.{called}
 use Rattle.lower_model.proofs.State.{cells_of, store_with}
-use Rattle.lower_model.proofs.Relation.{Loose, Sound, HoldsNone, Away, left_to}
+use Rattle.lower_model.proofs.Relation.{Loose, Sound, HoldsNone, Away, left_to, SeenAs}
 use Rattle.lower_model.proofs.Pieces.{closes}
 use Rattle.lower_model.proofs.Conversions.{same_state}
 use Rattle.lower_model.proofs.Answers.{machine, beside_state, left_beside}
@@ -79,7 +79,9 @@ module _ (p : Program) (deepest : Observer) (b : Bases) (M n : ℕ) where
   pub record Left (d : ℕ) (K : List Label) (why : Stop) (σ : State) (c : Conf) : Type 0 where
     pub next : Locals
     pub way : ℕ
-    pub comes : c ≡ left_to why (br d [] K (laid b next) [] (store_with p.ranges (kinds_of p.globals) way (fault_kept why) σ)) (Deep (beside_state p deepest [] [] σ))
+    pub was : State
+    pub seen : SeenAs why σ was
+    pub comes : c ≡ left_to why (br d [] K (laid b next) [] (store_with p.ranges (kinds_of p.globals) way (fault_kept why) was)) (Deep (beside_state p deepest [] [] was))
     pub loose : Loose p deepest [] [] next
     pub answer : next.answer ≡ unanswered
     pub good : ForGood why
@@ -91,6 +93,12 @@ module _ (p : Program) (deepest : Observer) (b : Bases) (M n : ℕ) where
     pub few : steps ≤ going_work b
     pub goes : Goes (machine p deepest [] []) steps (at [] [] K (laid b l) [] (goes_on (layout_of p b) k) (store_with p.ranges (kinds_of p.globals) way None σ)) (at [] [] K (laid b next) [] k (beside_state p deepest [] [] σ))
     pub starts : Starts p deepest [] [] b M n 0 K next σ
+
+  -- no fault left it: the store is beside the script's state
+  as_it_was : {σ was : State} → (way : ℕ) (k : Instructions) (K : List Label) (l : Locals) → σ ≡ was →
+      at [] [] K (laid b l) [] k (store_with p.ranges (kinds_of p.globals) way None was)
+      ≡ at [] [] K (laid b l) [] k (store_with p.ranges (kinds_of p.globals) way None σ)
+  as_it_was way k K l e = ap (λ x. at [] [] K (laid b l) [] k (store_with p.ranges (kinds_of p.globals) way None x)) (sym e)
 
   going : (way : ℕ) (K : List Label) (k : Instructions) (l : Locals) (σ : State) → zero ≡ b.parameters → loops_walked K ≡ 0 → Loose p deepest [] [] l → l.answer ≡ unanswered → Sound p deepest [] [] σ × HoldsNone p deepest [] [] l → length σ.own.locals ≡ 0 → σ.turns ≤ n → Going way K k l σ
   going way K k l σ none walks lo an left size le =
@@ -165,24 +173,24 @@ module _ (p : Program) (deepest : Observer) (b : Bases) (M n : ℕ) where
   nexted w m d c k K (Stops OutOfTurns τ) none walks le nr size h = within (machine p deepest [] []) M {A = Unit {0}} w (w + record_work) m c (λ u. On k K) (Away p deepest [] [] b d K) (Stops OutOfTurns τ) (omega arith) h
   nexted w m d c k K (Stops TooDeep τ) none walks le nr size h =
       reaches_on (machine p deepest [] []) M 0 w (w + record_work) m τ.turns c _ (Away p deepest [] [] b d K TooDeep τ) (omega arith)
-      (λ c1 q. record { conf = c1; steps = 0; few = omega arith; goes = stays; holds = record { next = q.next; comes = q.comes; loose = q.loose; answer = q.answer; after = tt } }) h
+      (λ c1 q. record { conf = c1; steps = 0; few = omega arith; goes = stays; holds = record { next = q.next; was = q.was; seen = q.seen; comes = q.comes; loose = q.loose; answer = q.answer; after = tt } }) h
   nexted w m d c k K (Stops (Faulted f) τ) none walks le nr size h =
       reaches_on (machine p deepest [] []) M 3 w (w + record_work) m τ.turns c _ (Away p deepest [] [] b d K (Faulted f) τ) (omega arith)
       (λ c1 q. record {
-        conf = br d [] K (laid b q.next) [] (left_beside p deepest [] [] (Faulted f) τ);
+        conf = br d [] K (laid b q.next) [] (left_beside p deepest [] [] (Faulted f) q.was);
         steps = 3;
         few = omega arith;
-        goes = goes_from q.comes (then_goes (global_copied p.ranges (length (kinds_of p.globals)) (cells_of (kinds_of p.globals) 0 τ) Way (Bits (word.I32 0)) tt refl refl) (by_steps 2 refl));
-        holds = record { next = q.next; comes = refl; loose = q.loose; answer = q.answer; after = tt };
+        goes = goes_from q.comes (then_goes (global_copied p.ranges (length (kinds_of p.globals)) (cells_of (kinds_of p.globals) 0 q.was) Way (Bits (word.I32 0)) tt refl refl) (by_steps 2 refl));
+        holds = record { next = q.next; was = q.was; seen = q.seen; comes = refl; loose = q.loose; answer = q.answer; after = tt };
       }) h
   nexted w m d c k K (Stops Exited τ) none walks le nr size h =
       reaches_on (machine p deepest [] []) M 3 w (w + record_work) m τ.turns c _ (Away p deepest [] [] b d K Exited τ) (omega arith)
       (λ c1 q. record {
-        conf = br d [] K (laid b q.next) [] (left_beside p deepest [] [] Exited τ);
+        conf = br d [] K (laid b q.next) [] (left_beside p deepest [] [] Exited q.was);
         steps = 3;
         few = omega arith;
-        goes = goes_from q.comes (then_goes (global_copied p.ranges (length (kinds_of p.globals)) (cells_of (kinds_of p.globals) 2 τ) Way (Bits (word.I32 2)) tt refl refl) (by_steps 2 refl));
-        holds = record { next = q.next; comes = refl; loose = q.loose; answer = q.answer; after = q.after };
+        goes = goes_from q.comes (then_goes (global_copied p.ranges (length (kinds_of p.globals)) (cells_of (kinds_of p.globals) 2 q.was) Way (Bits (word.I32 2)) tt refl refl) (by_steps 2 refl));
+        holds = record { next = q.next; was = q.was; seen = q.seen; comes = refl; loose = q.loose; answer = q.answer; after = q.after };
       }) h
   nexted w m d c k K (Stops Nexted τ) none walks le nr size h =
       let down = h.cost.down in
@@ -193,7 +201,7 @@ module _ (p : Program) (deepest : Observer) (b : Bases) (M n : ℕ) where
         conf = at [] [] K (laid b g.next) [] k (beside_state p deepest [] [] τ);
         steps = 3 + (g.steps + 1);
         few = let x = g.few in omega (arith, x);
-        goes = goes_from q.comes (then_goes (then_goes (global_copied p.ranges (length (kinds_of p.globals)) (cells_of (kinds_of p.globals) 1 τ) Way (Bits (word.I32 1)) tt refl refl) (by_steps 2 refl)) (then_goes g.goes closes));
+        goes = goes_from (q.comes ∙ as_it_was 1 (next_code d) (label [] None k ∷ K) q.next q.seen) (then_goes (then_goes (global_copied p.ranges (length (kinds_of p.globals)) (cells_of (kinds_of p.globals) 1 τ) Way (Bits (word.I32 1)) tt refl refl) (by_steps 2 refl)) (then_goes g.goes closes));
         holds = record { next = g.next; comes = refl; starts = record { fit = g.starts.fit; walked = g.starts.walked; walks = g.starts.walks; loops = walks; turns = g.starts.turns; parameters = g.starts.parameters } };
       }) h
 
@@ -242,24 +250,33 @@ module _ (p : Program) (deepest : Observer) (b : Bases) (M n : ℕ) where
   parted w m d c k K (Stops OutOfTurns τ) none walks le nr size h = within (machine p deepest [] []) M {A = Unit {0}} w (w + part_work) m c (λ u. On k K) (Left d K) (Stops OutOfTurns τ) (omega arith) h
   parted w m d c k K (Stops TooDeep τ) none walks le nr size h =
       reaches_on (machine p deepest [] []) M 0 w (w + part_work) m τ.turns c _ (Left d K TooDeep τ) (omega arith)
-      (λ c1 q. record { conf = c1; steps = 0; few = omega arith; goes = stays; holds = record { next = q.next; way = 0; comes = q.comes; loose = q.loose; answer = q.answer; good = tt } }) h
+      (λ c1 q. record { conf = c1; steps = 0; few = omega arith; goes = stays; holds = record { next = q.next; way = 0; was = q.was; seen = q.seen; comes = q.comes; loose = q.loose; answer = q.answer; good = tt } }) h
   parted w m d c k K (Stops (Faulted f) τ) none walks le nr size h =
       reaches_on (machine p deepest [] []) M 3 w (w + part_work) m τ.turns c _ (Left d K (Faulted f) τ) (omega arith)
       (λ c1 q. record {
-        conf = br d [] K (laid b q.next) [] (left_beside p deepest [] [] (Faulted f) τ);
+        conf = br d [] K (laid b q.next) [] (left_beside p deepest [] [] (Faulted f) q.was);
         steps = 3;
         few = omega arith;
-        goes = goes_from q.comes (then_goes (way_told 0 (Some f) τ) (by_steps 2 refl));
-        holds = record { next = q.next; way = 0; comes = refl; loose = q.loose; answer = q.answer; good = tt };
+        goes = goes_from q.comes (then_goes (way_told 0 (Some f) q.was) (by_steps 2 refl));
+        holds = record { next = q.next; way = 0; was = q.was; seen = q.seen; comes = refl; loose = q.loose; answer = q.answer; good = tt };
       }) h
   parted w m d c k K (Stops Nexted τ) none walks le nr size h =
       reaches_on (machine p deepest [] []) M 9 w (w + part_work) m τ.turns c _ (Left d K (Faulted NextOutside) τ) (omega arith)
       (λ c1 q. record {
-        conf = br d [] K (laid b q.next) [] (store_with p.ranges (kinds_of p.globals) 1 (Some NextOutside) τ);
+        conf = br d [] K (laid b q.next) [] (store_with p.ranges (kinds_of p.globals) 1 (Some NextOutside) q.was);
         steps = 8;
         few = omega arith;
-        goes = goes_from q.comes (then_goes (way_told 1 None τ) (then_goes (by_steps 2 refl) (then_goes (way_told 1 None τ) (then_goes (by_steps 2 refl) (then_goes (outside_kept τ) (by_steps 1 refl))))));
-        holds = record { next = q.next; way = 1; comes = refl; loose = q.loose; answer = q.answer; good = tt };
+        goes = goes_from q.comes (then_goes (way_told 1 None q.was) (then_goes (by_steps 2 refl) (then_goes (way_told 1 None q.was) (then_goes (by_steps 2 refl) (then_goes (outside_kept q.was) (by_steps 1 refl))))));
+        holds = record {
+          next = q.next;
+          way = 1;
+          was = q.was;
+          seen = ap (λ (x : State). x.shared) q.seen;
+          comes = refl;
+          loose = q.loose;
+          answer = q.answer;
+          good = tt;
+        };
       }) h
   parted w m d c k K (Stops Exited τ) none walks le nr size h =
       let down = h.cost.down in
@@ -270,7 +287,7 @@ module _ (p : Program) (deepest : Observer) (b : Bases) (M n : ℕ) where
         conf = at [] [] K (laid b g.next) [] k (beside_state p deepest [] [] τ);
         steps = 7 + (g.steps + 1);
         few = let x = g.few in omega (arith, x);
-        goes = goes_from q.comes (then_goes (then_goes (way_told 2 None τ) (then_goes (by_steps 2 refl) (then_goes (way_told 2 None τ) (by_steps 3 refl)))) (then_goes g.goes closes));
+        goes = goes_from (q.comes ∙ as_it_was 2 (part_code d) (label [] None k ∷ K) q.next q.seen) (then_goes (then_goes (way_told 2 None τ) (then_goes (by_steps 2 refl) (then_goes (way_told 2 None τ) (by_steps 3 refl)))) (then_goes g.goes closes));
         holds = record { next = g.next; comes = refl; starts = record { fit = g.starts.fit; walked = g.starts.walked; walks = g.starts.walks; loops = walks; turns = g.starts.turns; parameters = g.starts.parameters } };
       }) h
 
