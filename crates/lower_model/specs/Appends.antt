@@ -1,6 +1,6 @@
--- Texts that are put behind a name's own: `s = s e`, `s = s e f` and so on. Where what is put there neither reads nor writes the name, and calls no function, the
--- name gives its text away for each of them, so that nobody else holds it and the host can write behind it.
-use Rattle.std.specs.Prelude.{ℕ, Bool, true, false, not, ◌&&◌, ◌||◌, nat_eq, if◌then◌else◌, Option, Some, None}
+-- Texts that are put behind the own one of a boxed name of the program: `s = s e`, `s = s e f` and so on. Where what is put there neither reads nor writes the name,
+-- and calls no function, the name gives its text away for each of them, so that nobody else holds it and the host can write behind it.
+use Rattle.std.specs.Prelude.{ℕ, Bool, true, false, not, ◌&&◌, ◌||◌, nat_eq, Option, Some, None}
 use Rattle.sem_primitives.specs.declared.table.Primitive.TheVariants as row
 use Rattle.mid_program.specs.declared.mid.Operation.{Operation}
 use Rattle.mid_program.specs.declared.mid.Operation.TheVariants.{Host}
@@ -11,10 +11,6 @@ abbrev pub same_slot : Slot → Slot → Bool
 same_slot (Global unboxed name) (Global other number) = nat_eq name number
 same_slot (Parameter unboxed place) (Parameter other number) = nat_eq place number
 same_slot slot other = false
-
-abbrev pub is_boxed : Slot → Bool
-is_boxed (Global unboxed name) = not unboxed
-is_boxed (Parameter unboxed place) = not unboxed
 
 -- a parameter that is an array is no scalar
 abbrev pub is_array_of : Slot → ArrayName → Bool
@@ -51,10 +47,15 @@ abbrev pub is_chain : Slot → Code → Bool
 is_chain slot (Do (Host row.Concat) (At left (At right End))) = is_still slot right && (is_name slot left || is_chain slot left)
 is_chain slot code = false
 
+-- a boxed name of the program, and the texts that it takes
 pub record Append : Type 0 where
-  pub target : Slot
+  pub target : ℕ
   pub chain : Code
 
+abbrev pub append_of : ℕ → Code → Bool → Option Append
+append_of name code true = Some (record { target = name; chain = code })
+append_of name code false = None
+
 abbrev pub append_in : Code → Option Append
-append_in (Set slot code) = if is_boxed slot && is_chain slot code then Some (record { target = slot; chain = code }) else None
+append_in (Set (Global false name) code) = append_of name code (is_chain (Global false name) code)
 append_in code = None

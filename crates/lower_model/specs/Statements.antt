@@ -21,9 +21,9 @@ use Rattle.wasm_types.specs.declared.instr.IRelOp.TheVariants.{Eq, GtU, LeS, Ne}
 use Rattle.wasm_types.specs.declared.instr.ITestOp.TheVariants.{Eqz}
 use Rattle.wasm_types.specs.declared.instr.CvtOp.TheVariants.{I32WrapI64}
 use Rattle.sem_scripts.specs.Names.{ArrayName}
-use Rattle.mid_program.specs.Mid.{Kind, Boxed, Unboxed, ArrayKind, Slot, Global, Parameter, Code, Do, Get, Choose, Codes, End, At, Form, PrimitiveAnswer, NumberOrText, OptionalNumber, Step, Eval, Block as Steps_, If as Either, Loop, Each, Break, Continue, Next, Exit, ExitWith, Return, Mark, Steps, NoStep, Then as AndThen, Program, a_value, form_of}
+use Rattle.mid_program.specs.Mid.{Kind, Boxed, Unboxed, ArrayKind, Parameter, Code, Do, Get, Choose, Codes, End, At, Form, PrimitiveAnswer, NumberOrText, OptionalNumber, Step, Eval, Block as Steps_, If as Either, Loop, Each, Break, Continue, Next, Exit, ExitWith, Return, Mark, Steps, NoStep, Then as AndThen, Program, a_value, form_of}
 use Rattle.lower_model.specs.Places.{Bases, way_global, status_global, text_global, range_global, handle_global, number_global, answer_local, iterator_local, array_local, handle_local, number_local}
-use Rattle.lower_model.specs.Small.{emit, minus_one, ask, ask_row, when, emit_if, end_code, text_beside, copied, moved_out, emptied, let_go, fail_if, number_is, least, was_left, kept_code, kept_number, kept_done, to_value, number_of_value, to_number}
+use Rattle.lower_model.specs.Small.{emit, ask, ask_row, when, emit_if, end_code, text_beside, copied, moved_out, emptied, let_go, fail_if, number_is, least, was_left, kept_code, kept_value, kept_number, kept_done, to_value, number_of_value, to_number}
 use Rattle.lower_model.specs.Quick.{Within, unsure, test_within, Holder, OfName, OfParameter, Source, Held, Constant, all_unsure, Sum, sum_names, sum_op, sum_in, Update, update_in, Tally, tally_in, Remainder, remainder_in, remainder_names, most_multiplied, multiplied, Counted, counted_in, Pair, pair_names, pair_in, contrary, step_jumps, is_nothing}
 use Rattle.lower_model.specs.Appends.{Append, append_in}
 use Rattle.lower_model.specs.Arithmetic.{relation}
@@ -171,29 +171,19 @@ module _ (layout : Layout) where
       emit (name_read layout remainder.multiple.name) (multiplied remainder.multiple.factor
       (emit (I64Const (cast_unsigned w64 remainder.divisor)) (emit (Binary I64 RemS) (emit (name_put remainder.target) after))))
 
-  -- Texts are put behind a name's own: each is evaluated, then the name gives its text away, and takes the two as one. If that is too long the name has nothing,
-  -- and the fault is the run's end.
+  -- Texts are put behind a name's own: each is evaluated, then the name gives its text away, and takes the two as one. If these are too long the name has nothing,
+  -- and the function is left.
 
-  abbrev pub slot_taken : Slot → Instructions → Instructions
-  slot_taken (Global unboxed name) after = emit (GlobalGet (handle_global layout.ranges name)) after
-  slot_taken (Parameter unboxed place) after = emit (LocalGet place) after
-
-  abbrev pub slot_put : Slot → Instructions → Instructions
-  slot_put (Global unboxed name) after = emit (GlobalSet (handle_global layout.ranges name)) after
-  slot_put (Parameter unboxed place) after = emit (LocalSet place) after
-
-  abbrev pub text_appended : Slot → Code → ℕ → Instructions → Instructions
-  text_appended slot code exit after =
+  abbrev pub text_appended : ℕ → Code → ℕ → Instructions → Instructions
+  text_appended name code exit after =
       emitted layout false [] [] code zero zero exit (to_value bases (form_of [] code) zero
-      (slot_taken slot (moved_out (handle_local bases zero) (ask_row row.Concat
-      (emit (LocalTee (handle_local bases zero)) (emit (I32Const minus_one) (emit (Comparing I32 Eq)
-      (when (ask_row row.Uninit (slot_put slot (emit (Br (suc exit)) Done)))
-      (moved_out (handle_local bases zero) (slot_put slot after))))))))))
+      (emit (GlobalGet (handle_global layout.ranges name)) (moved_out (handle_local bases zero) (ask_row row.Concat (kept_value bases true zero exit
+      (moved_out (handle_local bases zero) (emit (GlobalSet (handle_global layout.ranges name)) after)))))))
 
-  abbrev pub chain_appended : Slot → Code → ℕ → Instructions → Instructions
-  chain_appended slot (Do operation (At (Get name) (At code End))) exit after = text_appended slot code exit after
-  chain_appended slot (Do operation (At chain (At code End))) exit after = chain_appended slot chain exit (text_appended slot code exit after)
-  chain_appended slot chain exit after = after
+  abbrev pub chain_appended : ℕ → Code → ℕ → Instructions → Instructions
+  chain_appended name (Do operation (At (Get slot) (At code End))) exit after = text_appended name code exit after
+  chain_appended name (Do operation (At chain (At code End))) exit after = chain_appended name chain exit (text_appended name code exit after)
+  chain_appended name chain exit after = after
 
   abbrev pub appended_dropped : Option Append → Code → ℕ → Instructions → Instructions
   appended_dropped None code exit after = dropped layout [] [] code zero zero exit after
