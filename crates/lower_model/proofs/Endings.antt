@@ -1,5 +1,5 @@
 -- The end of `main`, with the status that the script has, and how whole runs show: what the machine comes to is what the script's run is.
-use Rattle.std.proofs.Common.{◌≡◌, inl, inr, ℕ, zero, suc, ◌+◌, ◌*◌, ◌^◌, ◌<◌, ◌≤◌, cond, true, [], length, Some, None, Option, ℤ, pos, negsuc, unsigned_abs, w64, refl, ap, ◌∙◌, arith}
+use Rattle.std.proofs.Common.{◌≡◌, inl, inr, ℕ, zero, suc, ◌+◌, ◌*◌, ◌^◌, ◌<◌, ◌≤◌, cond, true, [], length, Some, None, ℤ, pos, negsuc, unsigned_abs, w64, refl, ap, ◌∙◌, arith}
 use Rattle.std.specs.Prelude.{◌%◌, ◌&&◌}
 use Rattle.std.proofs.lemmas.Bool.{lt-ltb}
 use Rattle.std.specs.Int.{cast_unsigned, int_rem_euclid}
@@ -90,11 +90,14 @@ module _ (p : Program) (deepest : Observer) (b : Bases) where
             ∙ ap (λ t. guarded (true && t) (Over v G)) fine))));
       }
 
-  pub main_ends : (way : ℕ) (l : Locals) (σ : State) → zero ≡ b.parameters → Loose p deepest [] [] l → l.answer ≡ unanswered → MainEnds (number_word σ.status) (store_with p.ranges (kinds_of p.globals) way None σ) l
-  main_ends way l σ none lo an = main_ends_by (cells_of (kinds_of p.globals) way σ) (host_of σ None) (number_word σ.status) l none lo an refl (globals_fine p tidy_name way σ name_tidy)
+  pub main_ends : (way : ℕ) (l : Locals) (σ : State) → zero ≡ b.parameters → Loose p deepest [] [] l → l.answer ≡ unanswered →
+      MainEnds (number_word σ.status) (store_with p.ranges (kinds_of p.globals) way None σ) l
+  main_ends way l σ none lo an =
+      main_ends_by (cells_of (kinds_of p.globals) way σ) (host_of σ None) (number_word σ.status) l none lo an refl (globals_fine p tidy_name way σ name_tidy)
 
   -- a fault is kept
-  pub kept_ends : (way : ℕ) (f : Fault) (l : Locals) (σ : State) (g : Globals) → zero ≡ b.parameters → Loose p deepest [] [] l → l.answer ≡ unanswered → Worn (kinds_of p.globals) (cells_of (kinds_of p.globals) way σ) g →
+  pub kept_ends : (way : ℕ) (f : Fault) (l : Locals) (σ : State) (g : Globals) → zero ≡ b.parameters → Loose p deepest [] [] l → l.answer ≡ unanswered →
+      Worn (kinds_of p.globals) (cells_of (kinds_of p.globals) way σ) g →
       MainEnds (number_word σ.status) (storing (placed p.ranges (length (kinds_of p.globals)) g) (host_of σ (Some f))) l
   kept_ends way f l σ g none lo an w =
       let kinds = kinds_of p.globals in

@@ -5,7 +5,6 @@ use Rattle.std.proofs.lemmas.Int.{ints, fits_signed_from_abs, to_z-of_z, rem_bel
 use Rattle.std.proofs.lemmas.Bool.{and_parts, eq-eqb, cases_lt, le-leb}
 use Rattle.std.proofs.Math.Nat.{mul-le-mul_left}
 use Rattle.awk_values.specs.Operators.{Outcome as Checked, is_zero, checked}
-use Rattle.awk_values.specs.declared.fault.Fault.{Fault}
 use Rattle.awk_values.specs.declared.fault.Fault.TheVariants.{Range, DivisionByZero, Inexact}
 use Rattle.sem_primitives.specs.Numbers.{Number, number_word, or_range, outcome_of}
 use Rattle.sem_primitives.specs.Sorts.{Row}
@@ -29,12 +28,12 @@ use Rattle.mid_program.specs.declared.mid.Arithmetic.TheVariants as inline
 use Rattle.mid_program.specs.declared.mid.Operation.TheVariants.{Inline}
 use Rattle.mid_program.specs.Mid.{Kind, Program, Form, a_number, Do, Codes, End, At, Fixed, Fresh}
 use Rattle.mid_program.specs.MidMeaning.{Env, evaluated, all_evaluated, arithmetic_of}
-use Rattle.sem_scripts.specs.ScriptState.{State, Stop, Faulted, Outcome, settled}
+use Rattle.sem_scripts.specs.ScriptState.{State, Stop, Outcome, settled}
 use Rattle.mid_program.specs.Sorted.{Held as Standing, sorted, all_sorted, held_after, fit_row}
 use Rattle.lower_model.specs.Arithmetic.{out_of_range, two_numbers, ranged, any_product, far_off, times, unless_zero, unless_broken, divided, calculated}
 use Rattle.lower_model.specs.Cells.{Cell, Bits}
 use Rattle.lower_model.specs.Emission.{all_emitted, all_converted}
-use Rattle.lower_model.specs.Machine.{Conf, Label, Frame, Store, at, br, label, loops_walked, with_operands, push_result}
+use Rattle.lower_model.specs.Machine.{Conf, Label, Frame, Store, at, label, loops_walked, with_operands, push_result}
 use Rattle.lower_model.specs.Places.{Bases, calculated_room, room, arrays_in, number_local}
 use Rattle.lower_model.specs.Small.{emit, fail_if}
 use Rattle.lower_model.proofs.Observer.{Observer}
@@ -42,7 +41,7 @@ use Rattle.lower_model.proofs.Runs.{Goes, then_goes, goes_to, by_steps, stays, t
 use Rattle.lower_model.proofs.Regions.{upd_same, upd_other}
 use Rattle.lower_model.proofs.Locals.{Locals, Number as NumberAt, with_at, laid}
 use Rattle.lower_model.proofs.Steps.{empty, get_copied, set_ok}
-use Rattle.lower_model.proofs.Relation.{Same, same_self, same_then, same_number, Fit, fit_loose, fit_less, fit_number, Away}
+use Rattle.lower_model.proofs.Relation.{Same, same_self, same_then, same_number, Fit, fit_less, fit_number, Away}
 use Rattle.lower_model.proofs.Answers.{machine, beside_state, away_plain, Put, Reached}
 use Rattle.lower_model.proofs.Products.{word, is_out, out_word, is_far, product_near, sum_word, difference_word, triangle, product, told, quotient_bound, is_signed}
 use Rattle.lower_model.proofs.Choosing.{zero_word}

@@ -35,7 +35,7 @@ use Rattle.lower_model.proofs.Observer.{Observer}
 use Rattle.lower_model.proofs.Runs.{Goes, then_goes, goes_to, goes_from, by_steps, stays, there, faulted, first}
 use Rattle.lower_model.proofs.Locals.{Locals, Number as NumberAt, laid}
 use Rattle.lower_model.proofs.Steps.{get_copied}
-use Rattle.lower_model.proofs.Relation.{HoldsAt, Fit, fit_loose, Away}
+use Rattle.lower_model.proofs.Relation.{HoldsAt, Fit, Away}
 use Rattle.lower_model.proofs.Pieces.{chooses}
 use Rattle.lower_model.proofs.Answers.{machine, beside_state, left_beside, row_called, away_plain, Reached}
 use Rattle.lower_model.proofs.Conversions.{same_state}

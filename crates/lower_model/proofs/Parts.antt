@@ -136,7 +136,8 @@ module _ (p : Program) (deepest : Observer) (b : Bases) (M n : ℕ) where
   store_of {o = o} q = storing (placed p.ranges (length (kinds_of p.globals)) q.globals) o
 
   -- the way is looked at there
-  kept_told : {was : Globals} {o : Host} {s : Store} {w : ℕ} {K : List Label} {L : List Cell} {k : Instructions} → (q : KeptBeside p.ranges (kinds_of p.globals) was o s) → q.globals.way ≡ Bits (word.I32 w) →
+  kept_told : {was : Globals} {o : Host} {s : Store} {w : ℕ} {K : List Label} {L : List Cell} {k : Instructions} →
+      (q : KeptBeside p.ranges (kinds_of p.globals) was o s) → q.globals.way ≡ Bits (word.I32 w) →
       Goes (machine p deepest [] []) 1 (at [] [] K L [] (emit (GlobalGet way_global) k) (store_of q)) (at [] (Bits (word.I32 w) ∷ []) K L [] k (store_of q))
   kept_told {w = w} q e = global_copied p.ranges (length (kinds_of p.globals)) q.globals Way (Bits (word.I32 w)) tt e refl
 
@@ -189,7 +190,15 @@ module _ (p : Program) (deepest : Observer) (b : Bases) (M n : ℕ) where
         steps = 3;
         few = omega arith;
         goes = goes_from (q.comes ∙ beside_left (next_code d) (label [] None k ∷ K) q.next q.left.is) (then_goes (kept_told q.left q.left.worn.way) (by_steps 2 refl));
-        holds = record { next = q.next; store = q.store; left = q.left; comes = ap (br d [] K (laid b q.next) []) (sym q.left.is); loose = q.loose; answer = q.answer; after = tt };
+        holds = record {
+          next = q.next;
+          store = q.store;
+          left = q.left;
+          comes = ap (br d [] K (laid b q.next) []) (sym q.left.is);
+          loose = q.loose;
+          answer = q.answer;
+          after = tt;
+        };
       }) h
   nexted w m d c k K (Stops Exited τ) none walks le nr size h =
       reaches_on (machine p deepest [] []) M 3 w (w + record_work) m τ.turns c _ (Away p deepest [] [] b d K Exited τ) (omega arith)
@@ -198,7 +207,15 @@ module _ (p : Program) (deepest : Observer) (b : Bases) (M n : ℕ) where
         steps = 3;
         few = omega arith;
         goes = goes_from (q.comes ∙ beside_left (next_code d) (label [] None k ∷ K) q.next q.left) (then_goes (global_copied p.ranges (length (kinds_of p.globals)) (cells_of (kinds_of p.globals) 2 τ) Way (Bits (word.I32 2)) tt refl refl) (by_steps 2 refl));
-        holds = record { next = q.next; store = left_beside p deepest [] [] Exited τ; left = refl; comes = refl; loose = q.loose; answer = q.answer; after = q.after };
+        holds = record {
+          next = q.next;
+          store = left_beside p deepest [] [] Exited τ;
+          left = refl;
+          comes = refl;
+          loose = q.loose;
+          answer = q.answer;
+          after = q.after;
+        };
       }) h
   nexted w m d c k K (Stops Nexted τ) none walks le nr size h =
       let down = h.cost.down in
@@ -266,7 +283,16 @@ module _ (p : Program) (deepest : Observer) (b : Bases) (M n : ℕ) where
         steps = 3;
         few = omega arith;
         goes = goes_from (q.comes ∙ beside_left (part_code d) (label [] None k ∷ K) q.next q.left.is) (then_goes (kept_told q.left q.left.worn.way) (by_steps 2 refl));
-        holds = record { next = q.next; way = 0; store = q.store; left = q.left; comes = ap (br d [] K (laid b q.next) []) (sym q.left.is); loose = q.loose; answer = q.answer; good = tt };
+        holds = record {
+          next = q.next;
+          way = 0;
+          store = q.store;
+          left = q.left;
+          comes = ap (br d [] K (laid b q.next) []) (sym q.left.is);
+          loose = q.loose;
+          answer = q.answer;
+          good = tt;
+        };
       }) h
   parted w m d c k K (Stops Nexted τ) none walks le nr size h =
       reaches_on (machine p deepest [] []) M 9 w (w + part_work) m τ.turns c _ (Left d K (Faulted NextOutside) τ) (omega arith)
