@@ -79,14 +79,21 @@ module _ (kinds : List Kind) (way i : ℕ) (boxed : kind_here kinds i ≡ Boxed)
         text = refl;
         range = λ j. refl;
         hand = λ j. elim (cases_eq j i) [
-          | inl e ↦ boxed_gone (kind_here kinds j) (g.hand j) (upd g.hand i Gone j) (ap (kind_here kinds) e ∙ boxed) (ap (upd g.hand i Gone) e ∙ upd_same g.hand i Gone)
+          | inl e ↦
+              boxed_gone (kind_here kinds j) (g.hand j) (upd g.hand i Gone j) (ap (kind_here kinds) e ∙ boxed)
+              (ap (upd g.hand i Gone) e ∙ upd_same g.hand i Gone)
           | inr ne ↦ subst (HandWorn (kind_here kinds j) (g.hand j)) (sym (upd_other g.hand i j Gone ne)) (self.hand j)
         ];
         number = λ j. refl;
       }
 
+-- the globals while a boxed name has given its text away
+abbrev pub text_given : Program → ℕ → State → Globals
+text_given p i σ = with_global_at p.ranges (length (kinds_of p.globals)) (cells_of (kinds_of p.globals) 0 σ) (Hand i) Gone
+
 module _ (p : Program) (i : ℕ) (v : Value) (x : Fault) (boxed : has_kind (kinds_of p.globals) i Boxed ≡ true) where
-  pub left_less : (σ : State) (s : Store) → StoreLeft p.ranges (kinds_of p.globals) (Faulted x) (with_global i v σ) s → StoreLeft p.ranges (kinds_of p.globals) (Faulted x) σ s
+  pub left_less : (σ : State) (s : Store) → StoreLeft p.ranges (kinds_of p.globals) (Faulted x) (with_global i v σ) s →
+      StoreLeft p.ranges (kinds_of p.globals) (Faulted x) σ s
   left_less σ s q =
       let kinds = kinds_of p.globals in
       record { globals = q.globals; worn = worn_less kinds 0 i (kind_found kinds i Boxed boxed) v σ q.globals q.worn; is = q.is }
@@ -104,23 +111,19 @@ module _ (p : Program) (deepest : Observer) (ks : List Kind) (F : List Frame) (b
     after = tt;
   }
 
-  -- the globals while such a name has given its text away
-  abbrev pub text_given : ℕ → State → Globals
-  text_given i σ = with_global_at p.ranges (length (kinds_of p.globals)) (cells_of (kinds_of p.globals) 0 σ) (Hand i) Gone
-
   -- a call fails to which a name gave its text
   pub away_lost : (i : ℕ) (v : Value) (x : Fault) (u d : ℕ) (K : List Label) (l : Locals) (σ : State) → has_kind (kinds_of p.globals) i Boxed ≡ true →
       Fit p deepest ks F 0 u 0 l (with_global i v σ) →
       Away p deepest ks F b d K (Faulted x) σ
-      (br d ks K (laid b l) F (storing (placed p.ranges (length (kinds_of p.globals)) (text_given i (with_global i v σ))) (host_of σ (Some x))))
+      (br d ks K (laid b l) F (storing (placed p.ranges (length (kinds_of p.globals)) (text_given p i (with_global i v σ))) (host_of σ (Some x))))
   away_lost i v x u d K l σ h ft =
       let kinds = kinds_of p.globals in
       let τ = with_global i v σ in
       let boxed = kind_found kinds i Boxed h in
       record {
         next = l;
-        store = storing (placed p.ranges (length kinds) (text_given i τ)) (host_of σ (Some x));
-        left = record { globals = text_given i τ; worn = worn_less kinds 0 i boxed v σ (text_given i τ) (worn_gone kinds 0 i boxed p.ranges τ); is = refl };
+        store = storing (placed p.ranges (length kinds) (text_given p i τ)) (host_of σ (Some x));
+        left = record { globals = text_given p i τ; worn = worn_less kinds 0 i boxed v σ (text_given p i τ) (worn_gone kinds 0 i boxed p.ranges τ); is = refl };
         comes = refl;
         loose = fit_loose p deepest ks F 0 u 0 l τ ft;
         answer = ft.answer;
