@@ -45,6 +45,9 @@ pub mod Tallies
 pub mod Tallying
 pub mod QuickParts
 pub mod Remainders
+pub mod Still
+pub mod Chains
+pub mod Appending
 pub mod Evaluating
 pub mod QuickSteps
 pub mod Adding

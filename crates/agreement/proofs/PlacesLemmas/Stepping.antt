@@ -19,7 +19,7 @@ use Rattle.lower_model.specs.Noted.{routine_rest}
 use Rattle.lower_model.specs.Places.{Bases, handle_local, made_in}
 use Rattle.lower_model.specs.Quick.{Within, test_within, Source, Holder, OfName, OfParameter, Held, Constant, Sum, sum_names, sum_op, sum_in, Update, update_in, Tally, tally_in, Remainder, remainder_in, remainder_names, multiplied, Counted, counted_in, Pair, pair_names, pair_in, step_jumps, is_nothing}
 use Rattle.lower_model.specs.Small.{emit, emit_if}
-use Rattle.lower_model.specs.Statements.{name_numbered, source_numbered, source_taken, sum_kept, sum_taken, summed_anyway, both_asked, element_numbered, element_given, remainder_taken, remainder_dropped, barely_dropped, plainly_dropped, quickly_dropped, left_unless_counted, left_unless_pair, left_unless, all_emptied, arrays_emptied, arrays_swept, before_parts, block, first_part, goes_on, has_functions, iterator_left, iterators_emptied, iterators_swept, key_stored, left_by, left_swept, main_body, names_declared, names_made, parameters_dropped, part_done, record_done, records_read, routine_body, routines_declared, started, step_emitted, steps_emitted, swept, temporaries_emptied, temporaries_swept, answer_given, returned, name_put, counted_left}
+use Rattle.lower_model.specs.Statements.{name_numbered, source_numbered, source_taken, sum_kept, sum_taken, summed_anyway, both_asked, element_numbered, element_given, remainder_taken, text_appended, chain_appended, appended_dropped, remainder_dropped, barely_dropped, plainly_dropped, quickly_dropped, left_unless_counted, left_unless_pair, left_unless, all_emptied, arrays_emptied, arrays_swept, before_parts, block, first_part, goes_on, has_functions, iterator_left, iterators_emptied, iterators_swept, key_stored, left_by, left_swept, main_body, names_declared, names_made, parameters_dropped, part_done, record_done, records_read, routine_body, routines_declared, started, step_emitted, steps_emitted, swept, temporaries_emptied, temporaries_swept, answer_given, returned, name_put, counted_left}
 use Rattle.lower_model.proofs.Tallies.{Shape, Updating, Following, Leading, tally_code, IsAdded, tally_is}
 use Rattle.lower_model.proofs.Updating.{added_is}
 use Rattle.agreement.specs.Places.Statements.{main_places, main_starts, routine_starts, starts_in, starts_of, step_starts, steps_starts}
@@ -133,8 +133,22 @@ module _ (y : Layout) (l : Limit) (G : (t f : ℕ) → Codes → Type 0)
   taken_remainder_nops : {k : Instructions} {m : List Instructions} (q : Remainder) → Nops l k m → Nops l (remainder_taken y q k) m
   taken_remainder_nops q r = holder_nops y l G enough q.multiple.name (multiplied_nops q.multiple.factor (plain _ refl (plain _ refl (put_nops q.target r))))
 
+  -- texts behind a name's own
+
+  text_nops : {k : Instructions} {m : List Instructions} (i : ℕ) (e : Code) (d : ℕ) → (l.asked ≡ true → Meets G zero e) → Nops l k m → Nops l (text_appended y i e d k) m
+  text_nops i e d lo r = emitted_nops y l G enough false [] [] e zero zero d lo (to_value_nops b (form_of [] e) zero (record { are = r.are; calls = r.calls; frees = r.frees }))
+
+  -- a text stands in a later temporary there than here, where less is promised of calls; it makes none
+  chain_nops : {k : Instructions} {m : List Instructions} {x : Slot} {c : Code} (i d : ℕ) → IsChain x c → Nops l k m → Nops l (chain_appended y i c d k) m
+  chain_nops i d (one z e n q) r = text_nops i e d (λ a. still_meets G x e zero q) r
+  chain_nops {k = k} {m = m} i d (more c e a q) r = subst (λ (j : Instructions). Nops l j m) (sym (last_appended y i e d k a)) (chain_nops i d a (text_nops i e d (λ z. still_meets G x e zero q) r))
+
+  appended_nops : {k : Instructions} {m : List Instructions} (o : Option Append) (e : Code) (d : ℕ) → append_in e ≡ o → (l.asked ≡ true → Meets G zero e) → Nops l k m → Nops l (appended_dropped y o e d k) m
+  appended_nops None e d h lo r = dropped_nops y l G enough [] [] e zero zero d lo r
+  appended_nops (Some q) e d h lo r = chain_nops q.target d (append_is e q h).chain r
+
   remainder_nops : {k : Instructions} {m : List Instructions} (o : Option Remainder) (e : Code) (d : ℕ) → (l.asked ≡ true → Meets G zero e) → Nops l k m → Nops l (remainder_dropped y o e d k) m
-  remainder_nops None e d lo r = dropped_nops y l G enough [] [] e zero zero d lo r
+  remainder_nops None e d lo r = appended_nops (append_in e) e d refl lo r
   remainder_nops (Some q) e d lo r = all_nops y l G enough (remainder_names q) _ _ (choice (dropped_nops y l G enough [] [] e zero zero (suc d) lo none) (taken_remainder_nops q none) r)
 
   module _ {k : Instructions} {m : List Instructions} where

@@ -149,6 +149,15 @@ module _ (tells : Bool) (y : Layout) (sizes : ℕ → Option ℕ) (whole : Progr
     anyway_spares : (x : Sum) (d : ℕ) → So e (summed_anyway y x d k)
     anyway_spares x d = numbered_spares (numbered_spares (taken_spares (taken_spares (sum_spares r (sum_op x.op) x.target zero d) x.right 1) x.left zero) x.right 1 d) x.left zero d
 
+    -- texts behind a name's own
+    text_spares : (i : ℕ) (s : Code) (d : ℕ) → sorted c [] s ≡ true → names_argv s ≡ false → So e (text_appended y i s d k)
+    text_spares i s d o q =
+        emitted_spares tells y sizes c sized same (to_value_spares tells y sizes joined (form_of [] s) zero) false [] [] s zero zero d none_kept o q
+      where
+        joined : So e (emit (GlobalGet (handle_global y.ranges i)) (moved_out (handle_local b zero) (ask_row row.Concat (kept_value b true zero d
+            (moved_out (handle_local b zero) (emit (GlobalSet (handle_global y.ranges i)) k))))))
+        joined = record { so = λ A. (true, (λ z. named i), (refl, ((refl, tt), (refl, r.so A)))) }
+
     remainder_spares : (o : Option Remainder) (s : Code) (d : ℕ) → sorted c [] s ≡ true → names_argv s ≡ false → So e (remainder_dropped y o s d k)
     remainder_spares None s d o q = dropped_spares tells y sizes c sized same r [] [] s zero zero d none_kept o q
     remainder_spares (Some x) s d o q = all_spares tells y sizes both (remainder_names x) _ _
