@@ -27,6 +27,7 @@ pub mod Choosing
 pub mod Making
 pub mod Numbers
 pub mod Texts
+pub mod Worn
 pub mod Lists
 pub mod InputLaws
 pub mod Setting
