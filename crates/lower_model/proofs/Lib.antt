@@ -93,3 +93,4 @@ pub mod Wholes
 pub mod Following
 pub mod Observer
 pub mod Silent
+pub mod Chains

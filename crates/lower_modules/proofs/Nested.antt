@@ -1,5 +1,5 @@
 -- Code is nested as deep as its labels are counted.
-use Rattle.std.proofs.Common.{◌≡◌, ◌≤◌, ◌+◌, ℕ, zero, suc, Bool, true, false, List, [], ◌∷◌, length, max, refl, ap, ◌∙◌, arith}
+use Rattle.std.proofs.Common.{◌≡◌, ◌≤◌, ◌+◌, ℕ, zero, suc, Bool, true, false, List, [], ◌∷◌, length, max, refl, sym, ap, ◌∙◌, subst, arith}
 use Rattle.std.specs.Prelude.{if◌then◌else◌, Option, Some, None, is_some, ℤ}
 use Rattle.awk_values.specs.declared.comparison.CompareOp.{CompareOp}
 use Rattle.sem_primitives.specs.declared.sorts.Answer.TheVariants as answer
@@ -9,22 +9,24 @@ use Rattle.sem_primitives.specs.declared.table.Primitive.TheVariants as row
 use Rattle.wasm_types.specs.Instructions.{depths}
 use Rattle.wasm_types.specs.Syntax.{Instructions, Done}
 use Rattle.wasm_types.specs.declared.instr.IBinOp.{IBinOp}
-use Rattle.wasm_types.specs.declared.instr.Simple.TheVariants.{Br, Call as CallOf}
+use Rattle.wasm_types.specs.declared.instr.Simple.TheVariants.{Br, Call as CallOf, GlobalGet, GlobalSet}
 use Rattle.host_imports.specs.Names.{import_number}
 use Rattle.host_imports.specs.declared.import.Import.TheVariants.{OfPrimitive}
 use Rattle.mid_program.specs.MidMeaning.{three_values}
-use Rattle.mid_program.specs.Mid.{Kind, Boxed, Unboxed, ArrayKind, Parameter, Code, Do, Over, Compare, Call, Ask, AskLine, FileLine, Replace, Number, Text, Unset, Get, Set, Array, IsOpen, Choose, Seq, Let, Bound, Codes, End, At, Fixed, Fresh, Step, Eval, Block as Steps_, If as Either, Loop, Each, Break, Continue, Next, Exit, ExitWith, Return, Mark, Steps, NoStep, Then as AndThen, Program, Routine, Form, PrimitiveAnswer, NumberOrText, OptionalNumber, a_value, form_of}
+use Rattle.mid_program.specs.Mid.{Kind, Boxed, Unboxed, ArrayKind, Slot, Parameter, Code, Do, Over, Compare, Call, Ask, AskLine, FileLine, Replace, Number, Text, Unset, Get, Set, Array, IsOpen, Choose, Seq, Let, Bound, Codes, End, At, Fixed, Fresh, Step, Eval, Block as Steps_, If as Either, Loop, Each, Break, Continue, Next, Exit, ExitWith, Return, Mark, Steps, NoStep, Then as AndThen, Program, Routine, Form, PrimitiveAnswer, NumberOrText, OptionalNumber, a_value, form_of}
 use Rattle.mid_program.specs.declared.mid.Operation.{Operation}
 use Rattle.mid_program.specs.declared.mid.Arithmetic.{Arithmetic}
 use Rattle.mid_program.specs.declared.mid.Operation.TheVariants.{Host, Inline, AsNumber}
 use Rattle.sem_scripts.specs.Names.{ArrayName}
+use Rattle.lower_model.specs.Appends.{Append, append_in}
 use Rattle.lower_model.specs.Arithmetic.{is_value}
 use Rattle.lower_model.specs.Emission.{Layout, Immediate, added_or, all_emitted, constant_field, emitted, field_at, field_in, immediate_field, immediate_in, immediate_or, field_or, one_field, text_kept}
 use Rattle.lower_model.specs.Functions.{layout_of, main_bases, main_callee, routine_bases, routine_callee}
-use Rattle.lower_model.specs.Places.{Bases}
+use Rattle.lower_model.specs.Places.{Bases, handle_global, handle_local}
 use Rattle.lower_model.specs.Quick.{Addition, Within, addition_in, addition_names, addition_of, test_within, Holder, OfName, OfParameter, holder_of, set_after, set_alone, Source, source_in, Sum, sum_names, sum_op, sum_in, sum_of, two_sum, set_sum, kept_sum, update_sum, old_source, stored_name, new_sum, let_sum, Update, update_in, Tally, tally_in, Remainder, remainder_in, remainder_names, Counted, counted_in, Pair, pair_names, pair_in, step_jumps, is_nothing}
-use Rattle.lower_model.specs.Small.{emit, emit_if}
-use Rattle.lower_model.specs.Statements.{answer_given, returned, holder_cleared, name_numbered, sum_kept, sum_taken, both_asked, element_numbered, element_given, remainder_dropped, barely_dropped, plainly_dropped, quickly_dropped, left_unless_counted, left_unless_pair, left_unless, again, all_emptied, arrays_emptied, before_parts, block, iterator_left, iterators_emptied, key_stored, left_by, names_declared, names_made, part_done, record_done, records_read, routines_declared, step_emitted, steps_emitted, temporaries_emptied}
+use Rattle.lower_model.specs.Small.{ask_row, emit, emit_if, kept_value, moved_out, to_value}
+use Rattle.lower_model.specs.Statements.{answer_given, returned, holder_cleared, name_numbered, sum_kept, sum_taken, both_asked, element_numbered, element_given, text_appended, chain_appended, appended_dropped, remainder_dropped, barely_dropped, plainly_dropped, quickly_dropped, left_unless_counted, left_unless_pair, left_unless, again, all_emptied, arrays_emptied, before_parts, block, iterator_left, iterators_emptied, key_stored, left_by, names_declared, names_made, part_done, record_done, records_read, routines_declared, step_emitted, steps_emitted, temporaries_emptied}
+use Rattle.lower_model.proofs.Chains.{IsChain, one_text, more_texts, append_is, last_appended}
 use Rattle.lower_model.proofs.State.{holder_slot}
 use Rattle.lower_model.proofs.Tallies.{Shape, Updating, Following, Leading, tally_code, tally_is}
 use Rattle.lower_model.proofs.Updating.{added_code, added_is}
@@ -297,8 +299,23 @@ module _ (y : Layout) where
   given_deep : {k : Instructions} {m : ℕ} (a : ArrayName) → Deep k m → Deep (element_given y a k) m
   given_deep a r = array_deep y a (past _ (past _ (past _ (past _ (past _ (past _ (past _ r)))))))
 
+  joined_deep : {k : Instructions} {m : ℕ} (i : ℕ) (f : Form) (d : ℕ) → Deep k m → Deep (to_value b f zero (emit (GlobalGet (handle_global y.ranges i)) (moved_out (handle_local b zero) (ask_row row.Concat (kept_value b true zero d
+      (moved_out (handle_local b zero) (emit (GlobalSet (handle_global y.ranges i)) k))))))) m
+  joined_deep i f d r = to_value_deep b f zero (record { count = let h = r.count in omega (arith, h) })
+
+  text_deep : {k : Instructions} {m : ℕ} (i : ℕ) (e : Code) (d : ℕ) → Deep k m → Deep (text_appended y i e d k) m
+  text_deep i e d r = emitted_deep y false [] [] e zero zero d (joined_deep i (form_of [] e) d r)
+
+  chain_deep : {k : Instructions} {m : ℕ} {x : Slot} {e : Code} (i d : ℕ) → IsChain x e → Deep k m → Deep (chain_appended y i e d k) m
+  chain_deep i d (one_text z a n s) r = text_deep i a d r
+  chain_deep {k = k} {m = m} i d (more_texts c a q s) r = subst (λ (j : Instructions). Deep j m) (sym (last_appended y i a d k q)) (chain_deep i d q (text_deep i a d r))
+
+  appended_deep : {k : Instructions} {m : ℕ} (o : Option Append) (e : Code) (d : ℕ) → append_in e ≡ o → Deep k m → Deep (appended_dropped y o e d k) m
+  appended_deep None e d h r = dropped_deep y [] [] e zero zero d r
+  appended_deep (Some q) e d h r = chain_deep q.target d (append_is e q h).chain r
+
   remainder_deep : {k : Instructions} {m : ℕ} (o : Option Remainder) (e : Code) (d : ℕ) → Deep k m → Deep (remainder_dropped y o e d k) m
-  remainder_deep None e d r = dropped_deep y [] [] e zero zero d r
+  remainder_deep None e d r = appended_deep (append_in e) e d refl r
   remainder_deep (Some q) e d r = all_deep y (remainder_names q) _ _ (behind_either r)
 
   module _ {k : Instructions} {m : ℕ} where
@@ -335,8 +352,25 @@ module _ (y : Layout) where
     unless_deep None e d out r = pair_deep (pair_in e) e d out r
     unless_deep (Some q) e d out r = past _ (past _ (past _ (past _ (past _ (behind_either r)))))
 
+  -- a chain has the labels of its texts
+
+  text_labelled : (k : Instructions) (i : ℕ) (e : Code) (d : ℕ) → Deep (text_appended y i e d k) (labels_in e)
+  text_labelled k i e d = labelled _ false [] [] e zero zero d
+
+  chain_labelled : (k : Instructions) {x : Slot} {e : Code} (i d : ℕ) → IsChain x e → Deep (chain_appended y i e d k) (labels_in e)
+  chain_labelled k i d (one_text z a n s) = at_least (text_labelled k i a d) (omega arith)
+  chain_labelled k i d (more_texts c a q s) =
+      subst (λ (j : Instructions). Deep j (labels_in (Do (Host row.Concat) (At c (At a End))))) (sym (last_appended y i a d k q))
+      (at_least (both (chain_labelled _ i d q) (chain_deep i d q (text_labelled k i a d))) (omega arith))
+
+  appended_labelled : (k : Instructions) (o : Option Append) (e : Code) (d : ℕ) → append_in e ≡ o → Deep (appended_dropped y o e d k) (labels_in e)
+  appended_labelled k None e d h = labelled _ true [] [] e zero zero d
+  appended_labelled k (Some q) e d h =
+      let t = append_is e q h in
+      at_least (chain_labelled k q.target d t.chain) (let n = ap labels_in t.code in omega (arith, n))
+
   remainder_labelled : (k : Instructions) (o : Option Remainder) (e : Code) (d : ℕ) → Deep (remainder_dropped y o e d k) (labels_in e)
-  remainder_labelled k None e d = labelled _ true [] [] e zero zero d
+  remainder_labelled k None e d = appended_labelled k (append_in e) e d refl
   remainder_labelled k (Some q) e d = all_deep y (remainder_names q) _ _ (at_least (inside_either (labelled _ true [] [] e zero zero (suc d)) any) (omega arith))
 
   barely_labelled : (k : Instructions) (o : Option Tally) (e : Code) (d : ℕ) → tally_in e ≡ o → Deep (barely_dropped y o e d k) (labels_in e)

@@ -1,5 +1,5 @@
 -- The parts of code and of steps as they stand in memory.
-use Rattle.std.proofs.Common.{◌≡◌, ℕ, zero, ◌≢◌, Bool, true, false, List, [], ◌∷◌, length, get_or, Option, Some, None, true≢false, refl, sym, ap, ◌∙◌, arith}
+use Rattle.std.proofs.Common.{◌≡◌, ℕ, zero, suc, ◌<◌, ◌≢◌, Bool, true, false, List, [], ◌∷◌, length, get_or, Option, Some, None, true≢false, refl, sym, ap, ◌∙◌, arith}
 use Rattle.std.specs.Option.{option_map}
 use Rattle.std.specs.Prelude.{ℤ, cond, if◌then◌else◌, nat_eq, ◌&&◌}
 use Rattle.std.specs.Bool.{◌==◌}
@@ -18,9 +18,11 @@ use Rattle.mid_program.specs.declared.code.Operand.{Operand}
 use Rattle.mid_program.specs.declared.code.Operand.TheVariants as operand
 use Rattle.mid_program.specs.declared.code.Code.{Code, Do}
 use Rattle.mid_program.specs.declared.step.Step.{Step, Block}
+use Rattle.lower_model.specs.Appends.{is_chain}
 use Rattle.lower_model.specs.Quick.{array_here, array_where, element_at, element_read, element_set, factor_in, field_count, first_sum, is_bound, is_count, is_nothing, kept_sum, kept_update, multiple_in, name_in, number_read, old_source, addition_of, constant_in, is_near, is_sum, new_sum, product_of, remainder_of, set_remainder, set_sum, set_update, sum_of, taker_at, tally_sum, two_product, two_remainder, update_sum, Addition, Constant, Holder, Source, Sum, multiple_of}
+use Rattle.lower_model.proofs.QuickNames.{some_is}
 use Rattle.lower_model.proofs.Tallies.{bound_is}
-use Rattle.lower_quick.specs.Operands.{binary_in, is_elem, is_modulo, is_set_elem, is_times, number_of, one_code, product_in, reads_special, three_codes, two_codes}
+use Rattle.lower_quick.specs.Operands.{binary_in, concat_in, is_concat, is_elem, is_modulo, is_set_elem, is_times, number_of, one_code, product_in, reads_special, three_codes, two_codes}
 use Rattle.lower_quick.proofs.Views.{view_block, view_do}
 
 pub do_view : (c : Code) (o : Operation) (v : Vec Operand Global) (es : List Operand) → c ≡ Do o v → es ≡ v.items → plain.Do o (views es) ≡ view c
@@ -277,6 +279,35 @@ name_multiple e i h = cc
 pub product_multiple : (e : plain.Code) → None ≡ name_in e → product_in e ≡ multiple_in e
 product_multiple (plain.Get x) h = ap multiple_of h
 product_multiple e h = refl
+
+-- texts that are put together
+
+concat_is : (p : Primitive) (es : plain.Codes) → cond (is_concat p) (two_codes es) None ≡ concat_in (plain.Do (Host p) es)
+concat_is row.Concat es = refl
+concat_is _ es = refl
+
+pub concat_here : (p : Primitive) (es : plain.Codes) → is_concat p ≡ true → two_codes es ≡ concat_in (plain.Do (Host p) es)
+concat_here p es h = sym (ap (λ (so : Bool). cond so (two_codes es) None) h) ∙ concat_is p es
+
+pub no_concat : (p : Primitive) (es : plain.Codes) → is_concat p ≡ false → None ≡ concat_in (plain.Do (Host p) es)
+no_concat p es h = sym (ap (λ (so : Bool). cond so (two_codes es) None) h) ∙ concat_is p es
+
+pub concat_are : (e x y : plain.Code) → Some (x, y) ≡ concat_in e → plain.Do (Host row.Concat) (plain.At x (plain.At y plain.End)) ≡ e
+concat_are (plain.Do (Host row.Concat) (plain.At a (plain.At b plain.End))) x y h = ap (λ (p : plain.Code × plain.Code). plain.Do (Host row.Concat) (plain.At p.0 (plain.At p.1 plain.End))) (some_is (x, y) (a, b) h)
+concat_are _ x y h = absurd cc
+
+pub no_chain : (s : plain.Slot) (e : plain.Code) → None ≡ concat_in e → false ≡ is_chain s e
+no_chain s (plain.Do (Host row.Concat) (plain.At x (plain.At y plain.End))) h = absurd cc
+no_chain s e h = refl
+
+-- how many texts a chain has at most
+abbrev pub links : plain.Code → ℕ
+links (plain.Do o (plain.At e es)) = suc (links e)
+links e = zero
+
+-- what stands before the last text has fewer
+pub links_fewer : (e x y : plain.Code) → Some (x, y) ≡ concat_in e → links x < links e
+links_fewer e x y h = let n = ap links (concat_are e x y h) in omega (arith, n)
 
 -- elements of arrays
 

@@ -1,12 +1,13 @@
 -- Parts of code.
-use Rattle.std.specs.Prelude.{zero, Bool, true, false, if◌then◌else◌, Option, None, Some, ℤ}
+use Rattle.std.specs.Prelude.{zero, Bool, true, false, if◌then◌else◌, ◌&&◌, List, [], ◌∷◌, Option, None, Some, ℤ}
 use Rattle.awk_values.specs.Operators.{is_zero}
 use Rattle.sem_primitives.specs.declared.table.Primitive.{Primitive}
 use Rattle.sem_primitives.specs.declared.table.Primitive.TheVariants as row
 use Rattle.mid_program.specs.declared.mid.Arithmetic.{Arithmetic}
 use Rattle.mid_program.specs.declared.mid.Arithmetic.TheVariants as inline
-use Rattle.mid_program.specs.declared.mid.Operation.TheVariants.{Inline, AsNumber}
-use Rattle.mid_program.specs.Mid.{Code, Do, Set, Let, Bound, Codes, End, At}
+use Rattle.mid_program.specs.declared.mid.Operation.TheVariants.{Host, Inline, AsNumber}
+use Rattle.mid_program.specs.Mid.{Slot, Code, Do, Set, Let, Bound, Codes, End, At}
+use Rattle.lower_model.specs.Appends.{is_still}
 use Rattle.lower_model.specs.Quick.{Multiple, two_product, Holder, holder_of}
 
 abbrev pub one_code : Codes → Option Code
@@ -67,3 +68,17 @@ unless_zero number = if is_zero number then None else Some number
 abbrev pub product_in : Code → Option Multiple
 product_in (Do (Inline operator) operands) = two_product operator operands
 product_in code = None
+
+-- texts that are put together
+
+abbrev pub is_concat : Primitive → Bool
+is_concat row.Concat = true
+is_concat primitive = false
+
+abbrev pub concat_in : Code → Option (Code × Code)
+concat_in (Do (Host row.Concat) operands) = two_codes operands
+concat_in code = None
+
+abbrev pub are_all_still : Slot → List Code → Bool
+are_all_still slot [] = true
+are_all_still slot (code ∷ codes) = is_still slot code && are_all_still slot codes

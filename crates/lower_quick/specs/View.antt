@@ -1,9 +1,11 @@
 -- The shapes that are found, as the definitions see them.
 use Rattle.std.specs.Prelude.{pos}
 use Rattle.awk_text.specs.Number.{largest}
+use Rattle.lower_model.specs.Appends as appends
 use Rattle.lower_model.specs.Quick as plain
 use Rattle.mid_program.specs.ViewCode.{view, view_array}
 use Rattle.lower_quick.specs.declared.addition.Addition.{Addition}
+use Rattle.lower_quick.specs.declared.append.Append.{Append}
 use Rattle.lower_quick.specs.declared.counted.Counted.{Counted}
 use Rattle.lower_quick.specs.declared.source.Holder.{Holder}
 use Rattle.lower_quick.specs.declared.source.Holder.TheVariants as holder
@@ -53,3 +55,6 @@ view_multiple multiple = record { name = view_holder multiple.name; factor = mul
 
 abbrev pub view_remainder : Remainder → plain.Remainder
 view_remainder remainder = record { target = view_holder remainder.target; multiple = view_multiple remainder.multiple; divisor = remainder.divisor }
+
+abbrev pub view_append : Append → appends.Append
+view_append append = record { target = append.target; chain = view append.chain.now }

@@ -2,6 +2,7 @@
 #![tactic(auto)]
 
 mod addition;
+mod append;
 mod counted;
 mod jumps;
 mod names;
@@ -15,6 +16,7 @@ mod update;
 mod within;
 
 pub use addition::{Addition, addition_in};
+pub use append::{Append, append_in, concat_in};
 pub use counted::{Counted, counted_in};
 pub use jumps::{is_nothing, step_jumps};
 pub use names::{addition_names, pair_names, remainder_names, sum_names};

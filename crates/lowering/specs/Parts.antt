@@ -12,11 +12,11 @@ use Rattle.wasm_types.specs.declared.instr.IRelOp.TheVariants.{Eq, LeS, Ne}
 use Rattle.wasm_types.specs.declared.instr.ITestOp.TheVariants.{Eqz}
 use Rattle.wasm_types.specs.declared.instr.Simple.TheVariants.{Nop, Br, BrIf, LocalGet, LocalSet, LocalTee, GlobalGet, GlobalSet, I32Const, I64Const, Test, Compare as Comparing, Convert}
 use Rattle.sem_scripts.specs.Names.{ArrayName}
-use Rattle.mid_program.specs.Mid.{Kind, Boxed, Unboxed, ArrayKind, Code, Form, Step, Steps, Program, form_of}
+use Rattle.mid_program.specs.Mid.{Kind, Boxed, Unboxed, ArrayKind, Code, Get, Form, Step, Steps, Program, form_of}
 use Rattle.lower_model.specs.Emission.{Layout, array_pushed, emitted, pending_assigned, tested, name_read}
 use Rattle.lower_model.specs.Quick.{Counted, Holder, Pair, Remainder, Sum, all_unsure, sum_names, sum_op, Tally, Within, is_nothing, pair_in, step_jumps, test_within}
 use Rattle.lower_model.specs.Places.{Bases, answer_local, handle_global, iterator_local, status_global, way_global, handle_local, number_local}
-use Rattle.lower_model.specs.Small.{ask, ask_row, emit, emit_if, end_code, fail_if, kept_code, least, number_is, text_beside, to_number, when}
+use Rattle.lower_model.specs.Small.{ask, ask_row, emit, emit_if, end_code, fail_if, kept_code, kept_value, least, moved_out, number_is, text_beside, to_number, when}
 use Rattle.lower_model.specs.Statements.{again, all_emptied, before_parts, block, constant_given, first_part, goes_on, iterator_left, iterators_swept, operands_swept, key_stored, last_part, left_by, left_unless, left_unless_counted, left_unless_pair, name_numbered, names_declared, parameters_dropped, part_done, record_done, records_read, returned, routines_declared, step_emitted, steps_emitted, sum_kept, element_given, remainder_dropped, summed, summed_anyway, swept, way_exit, way_next}
 use Rattle.host_imports.specs.declared.import.Import.TheVariants.{Drop}
 use Rattle.lowering.specs.declared.around.Around.{Around}
@@ -52,6 +52,17 @@ sum_done layout sum exit after =
 -- a remainder that a name takes: quickly where no product leaves the range
 abbrev pub remainder_done : Layout → Remainder → Code → ℕ → Instructions → Instructions
 remainder_done layout remainder code exit after = remainder_dropped layout (Some remainder) code exit after
+
+-- the value of temporary 0 is put behind a name's text
+abbrev pub text_joined : Layout → ℕ → (exit : ℕ) → Instructions → Instructions
+text_joined layout name exit after =
+    emit (GlobalGet (handle_global layout.ranges name)) (moved_out (handle_local layout.bases zero) (ask_row row.Concat (kept_value layout.bases true zero exit
+    (moved_out (handle_local layout.bases zero) (emit (GlobalSet (handle_global layout.ranges name)) after)))))
+
+-- whether code reads a name
+abbrev pub is_read : Code → Bool
+is_read (Get slot) = true
+is_read code = false
 
 -- whether a name has no number
 abbrev pub unnumbered : Layout → Holder → Instructions → Instructions

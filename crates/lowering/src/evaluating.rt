@@ -4,9 +4,10 @@ ghost use Rattle.wasm_types.specs.Syntax.{Instructions};
 ghost use Rattle.mid_program.specs.Mid as plain;
 ghost use Rattle.mid_program.specs.Mid.{form_of};
 ghost use Rattle.mid_program.specs.ViewCode.{view};
+ghost use Rattle.lower_model.specs.Appends.{append_in};
 ghost use Rattle.lower_model.specs.Emission.{dropped, emitted, tested};
 ghost use Rattle.lower_model.specs.Quick.{sum_in};
-ghost use Rattle.lower_model.specs.Statements.{quickly_dropped};
+ghost use Rattle.lower_model.specs.Statements.{appended_dropped, quickly_dropped};
 ghost use Rattle.lower_pieces.specs.Bounds.{most_labels, most_places};
 ghost use Rattle.lower_pieces.specs.Emits.{Emits, Reads};
 ghost use Rattle.lower_pieces.specs.Forms.{view_form};
@@ -17,6 +18,7 @@ ghost use Rattle.lower_quick.specs.View.{view_remainder, view_sum};
 ghost use Rattle.lowering.specs.Parts.{remainder_done, status_left, sum_done};
 ghost use Rattle.lowering.specs.QuickFits.{RemainderFits, SumFits};
 
+use crate::appending::chain_appended;
 use crate::leaving::WAY_EXIT;
 use crate::quick::{most_multiplied, names_unsure, remainder_code, sum_code};
 use crate::summing::{summed_anyway, updated};
@@ -24,7 +26,8 @@ use crate::tallying::tallied;
 use lower_expressions::{At, FunctionLayout, Kept, expression, left_over};
 use lower_pieces::{Emitted, Form, emit_all, emit_if, to_number, truth};
 use lower_quick::{
-    Remainder, Sum, remainder_in, remainder_names, sum_in, sum_names, tally_in, update_in,
+    Remainder, Sum, append_in, remainder_in, remainder_names, sum_in, sum_names, tally_in,
+    update_in,
 };
 use mid_program::Code;
 use std::alloc::Global;
@@ -151,6 +154,19 @@ fn sum_done(layout: &FunctionLayout<'_>, out: &mut Emitted, sum: Sum, exit: u32)
     emit_if(layout.alloc, out, all_cases, quick);
 }
 
+/// Adds texts that are put behind a name's own, or what code does alone in all cases.
+fn appended_done(layout: &FunctionLayout<'_>, out: &mut Emitted, code: &Code, exit: u32)
+    requires labels { suc (suc (suc exit)) ≤ most_labels }
+    requires fit { Fits (view_layout layout.now) (view code.now) 0 0 exit }
+    ensures { Emits out.old out.new
+        (appended_dropped (view_layout layout.now) (append_in (view code.now)) (view code.now) exit) }
+{
+    match append_in(code) {
+        Some(append) => chain_appended(layout, out, append.target, append.chain, exit),
+        None => done_alone(layout, out, code, exit),
+    }
+}
+
 /// Adds code for what it does alone, where nothing is kept.
 pub(crate) fn done(layout: &FunctionLayout<'_>, out: &mut Emitted, code: &Code, exit: u32)
     requires labels { suc (suc (suc exit)) ≤ most_labels }
@@ -169,7 +185,7 @@ pub(crate) fn done(layout: &FunctionLayout<'_>, out: &mut Emitted, code: &Code, 
     }
     match remainder_in(code) {
         Some(remainder) => remainder_done(layout, out, remainder, code, exit),
-        None => done_alone(layout, out, code, exit),
+        None => appended_done(layout, out, code, exit),
     }
 }
 

@@ -1,6 +1,7 @@
 //! The code of statements, of functions and of `main`, emitted as it is defined.
 #![tactic(auto)]
 
+mod appending;
 mod around;
 mod beginning;
 mod evaluating;

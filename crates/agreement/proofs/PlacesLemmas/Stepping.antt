@@ -1,6 +1,6 @@
 -- Where the places of functions are: one for each step, and one for the test of a `do` loop.
-use Rattle.std.proofs.Common.{◌≡◌, ℕ, zero, suc, ◌+◌, ◌≤◌, Bool, true, false, nat_le, List, [], ◌∷◌, ◌++◌, length, refl, sym, ap, ap₂, ◌∙◌, subst, arith}
-use Rattle.std.proofs.lemmas.Bool.{le-leb}
+use Rattle.std.proofs.Common.{◌≡◌, ℕ, zero, suc, ◌+◌, ◌≤◌, Bool, true, false, ◌&&◌, nat_le, List, [], ◌∷◌, ◌++◌, length, refl, sym, ap, ap₂, ◌∙◌, subst, arith}
+use Rattle.std.proofs.lemmas.Bool.{and_parts, le-leb}
 use Rattle.std.proofs.lemmas.List.{append_assoc, append-nil, length-append}
 use Rattle.std.specs.Prelude.{if◌then◌else◌, Option, Some, None, is_some, ℤ}
 use Rattle.sem_primitives.specs.declared.sorts.Answer.TheVariants as answer
@@ -10,8 +10,9 @@ use Rattle.wasm_types.specs.Syntax.{Instruction, Plain, BrTable, Block, Loop as 
 use Rattle.wasm_types.specs.declared.instr.IBinOp.{IBinOp}
 use Rattle.wasm_types.specs.declared.instr.Simple.{Simple}
 use Rattle.wasm_types.specs.declared.instr.Simple.TheVariants.{Br, BrIf, Nop}
-use Rattle.mid_program.specs.Mid.{Kind, Boxed, Unboxed, ArrayKind, Parameter, Code, Codes, Get, Step, Eval, Block as Steps_, If as Either, Loop, Each, Break, Continue, Next, Exit, ExitWith, Return, Mark, Steps, NoStep, Then as AndThen, Program, Routine, Choose, Form, PrimitiveAnswer, NumberOrText, OptionalNumber, a_value, form_of}
+use Rattle.mid_program.specs.Mid.{Kind, Boxed, Unboxed, ArrayKind, Parameter, Slot, Code, Do, Over, Compare, Number, Text, Array, IsOpen, Seq, Codes, End, At, Fixed, Fresh, Get, Step, Eval, Block as Steps_, If as Either, Loop, Each, Break, Continue, Next, Exit, ExitWith, Return, Mark, Steps, NoStep, Then as AndThen, Program, Routine, Choose, Form, PrimitiveAnswer, NumberOrText, OptionalNumber, a_value, form_of}
 use Rattle.sem_scripts.specs.Names.{ArrayName}
+use Rattle.lower_model.specs.Appends.{Append, append_in, are_still, is_still}
 use Rattle.lower_model.specs.Boundaries.{is_nop, nops_in, nops_of, step_places, steps_places}
 use Rattle.lower_model.specs.Emission.{Layout, field_at, function_number, tested}
 use Rattle.lower_model.specs.Functions.{layout_of, main_bases, main_callee, routine_bases, routine_callee}
@@ -19,12 +20,13 @@ use Rattle.lower_model.specs.Noted.{routine_rest}
 use Rattle.lower_model.specs.Places.{Bases, handle_local, made_in}
 use Rattle.lower_model.specs.Quick.{Within, test_within, Source, Holder, OfName, OfParameter, Held, Constant, Sum, sum_names, sum_op, sum_in, Update, update_in, Tally, tally_in, Remainder, remainder_in, remainder_names, multiplied, Counted, counted_in, Pair, pair_names, pair_in, step_jumps, is_nothing}
 use Rattle.lower_model.specs.Small.{emit, emit_if}
-use Rattle.lower_model.specs.Statements.{name_numbered, source_numbered, source_taken, sum_kept, sum_taken, summed_anyway, both_asked, element_numbered, element_given, remainder_taken, remainder_dropped, barely_dropped, plainly_dropped, quickly_dropped, left_unless_counted, left_unless_pair, left_unless, all_emptied, arrays_emptied, arrays_swept, before_parts, block, first_part, goes_on, has_functions, iterator_left, iterators_emptied, iterators_swept, key_stored, left_by, left_swept, main_body, names_declared, names_made, parameters_dropped, part_done, record_done, records_read, routine_body, routines_declared, started, step_emitted, steps_emitted, swept, temporaries_emptied, temporaries_swept, answer_given, returned, name_put, counted_left}
+use Rattle.lower_model.specs.Statements.{name_numbered, source_numbered, source_taken, sum_kept, sum_taken, summed_anyway, both_asked, element_numbered, element_given, text_appended, chain_appended, appended_dropped, remainder_taken, remainder_dropped, barely_dropped, plainly_dropped, quickly_dropped, left_unless_counted, left_unless_pair, left_unless, all_emptied, arrays_emptied, arrays_swept, before_parts, block, first_part, goes_on, has_functions, iterator_left, iterators_emptied, iterators_swept, key_stored, left_by, left_swept, main_body, names_declared, names_made, parameters_dropped, part_done, record_done, records_read, routine_body, routines_declared, started, step_emitted, steps_emitted, swept, temporaries_emptied, temporaries_swept, answer_given, returned, name_put, counted_left}
+use Rattle.lower_model.proofs.Chains.{IsChain, one_text, more_texts, append_is, last_appended}
 use Rattle.lower_model.proofs.Tallies.{Shape, Updating, Following, Leading, tally_code, IsAdded, tally_is}
 use Rattle.lower_model.proofs.Updating.{added_is}
 use Rattle.agreement.specs.Places.Statements.{main_places, main_starts, routine_starts, starts_in, starts_of, step_starts, steps_starts}
 use Rattle.agreement.proofs.PlacesLemmas.Nops.{Nops, holder_nops, all_nops, source_nops, array_nops, asked_nops, choice, dropped_nops, emitted_nops, kept_code_nops, kept_number_nops, none, pending_nops, plain, rounds, tested_nops, to_number_nops, to_value_nops, whichever}
-use Rattle.agreement.proofs.PlacesLemmas.Pending.{Limit, Meets, PartsFew, PartsMeet, StepMeets, StepsFew, StepsMeet, UpTo, calls_fit, last_local, limit_of}
+use Rattle.agreement.proofs.PlacesLemmas.Pending.{AllMeet, Limit, Meets, PartsFew, PartsMeet, StepMeets, StepsFew, StepsMeet, UpTo, calls_fit, last_local, limit_of}
 
 begun : {l : Limit} {k : Instructions} {m : List Instructions} → Nops l k m → Nops l (emit Nop k) (emit Nop k ∷ m)
 begun {k = k} r = record { are = ap (λ x. emit Nop k ∷ x) r.are; calls = r.calls; frees = r.frees }
@@ -67,6 +69,30 @@ tally_few G Leading q a lo = (lo.0, subst (Meets G 1) (sym a.1) tt)
 
 counter_few : (G : (t f : ℕ) → Codes → Type 0) (e : Code) (q : Tally) → tally_in e ≡ Some q → Meets G zero e → Meets G zero q.key × Meets G 1 q.added
 counter_few G e q h lo = let t = tally_is e q h in tally_few G t.shape q t.added (subst (Meets G zero) t.code lo)
+
+-- there is no call in what is put behind a name's text
+mutual
+  still_few : (G : (t f : ℕ) → Codes → Type 0) (x : Slot) (e : Code) (t : ℕ) → is_still x e ≡ true → Meets G t e
+  still_few G x (Do o es) t h = all_few G x es t h
+  still_few G x (Over o es) t h = all_few G x es t h
+  still_few G x (Compare c a b) t h = let s = and_parts (is_still x a) (is_still x b) h in (still_few G x a t s.0, still_few G x b (suc t) s.1)
+  still_few G x (Number z) t h = tt
+  still_few G x (Text i) t h = tt
+  still_few G x (Get z) t h = tt
+  still_few G x (Array a) t h = tt
+  still_few G x (IsOpen i) t h = tt
+  still_few G x (Choose s c a b) t h =
+      let u = and_parts (is_still x c) (is_still x a && is_still x b) h in
+      let v = and_parts (is_still x a) (is_still x b) u.1 in
+      (still_few G x c t u.0, (still_few G x a t v.0, still_few G x b t v.1))
+  still_few G x (Seq a b) t h = let s = and_parts (is_still x a) (is_still x b) h in (still_few G x a t s.0, still_few G x b t s.1)
+  still_few G x e t h = cc
+
+  all_few : (G : (t f : ℕ) → Codes → Type 0) (x : Slot) (es : Codes) (t : ℕ) → are_still x es ≡ true → AllMeet G t es
+  all_few G x End t h = tt
+  all_few G x (At e es) t h = let s = and_parts (is_still x e) (are_still x es) h in (still_few G x e t s.0, all_few G x es (suc t) s.1)
+  all_few G x (Fixed n es) t h = all_few G x es t h
+  all_few G x (Fresh es) t h = cc
 
 module _ (y : Layout) (l : Limit) (G : (t f : ℕ) → Codes → Type 0)
     (enough : (t f : ℕ) (es : Codes) → G t f es → l.allowed (function_number f) (handle_local y.bases t) (made_in es) ≡ true) where
@@ -133,8 +159,22 @@ module _ (y : Layout) (l : Limit) (G : (t f : ℕ) → Codes → Type 0)
   taken_remainder_nops : {k : Instructions} {m : List Instructions} (q : Remainder) → Nops l k m → Nops l (remainder_taken y q k) m
   taken_remainder_nops q r = holder_nops y l G enough q.multiple.name (multiplied_nops q.multiple.factor (plain _ refl (plain _ refl (put_nops q.target r))))
 
+  -- texts behind a name's own
+
+  text_nops : {k : Instructions} {m : List Instructions} (x : Slot) (i : ℕ) (e : Code) (d : ℕ) → is_still x e ≡ true → Nops l k m → Nops l (text_appended y i e d k) m
+  text_nops x i e d h r =
+      emitted_nops y l G enough false [] [] e zero zero d (λ z. still_few G x e zero h) (to_value_nops b (form_of [] e) zero (record { are = r.are; calls = r.calls; frees = r.frees }))
+
+  chain_nops : {k : Instructions} {m : List Instructions} {x : Slot} {e : Code} (i d : ℕ) → IsChain x e → Nops l k m → Nops l (chain_appended y i e d k) m
+  chain_nops {x = x} i d (one_text z a n h) r = text_nops x i a d h r
+  chain_nops {k = k} {m = m} {x = x} i d (more_texts c a n h) r = subst (λ (j : Instructions). Nops l j m) (sym (last_appended y i a d k n)) (chain_nops i d n (text_nops x i a d h r))
+
+  appended_nops : {k : Instructions} {m : List Instructions} (o : Option Append) (e : Code) (d : ℕ) → append_in e ≡ o → (l.asked ≡ true → Meets G zero e) → Nops l k m → Nops l (appended_dropped y o e d k) m
+  appended_nops None e d h lo r = dropped_nops y l G enough [] [] e zero zero d lo r
+  appended_nops (Some q) e d h lo r = chain_nops q.target d (append_is e q h).chain r
+
   remainder_nops : {k : Instructions} {m : List Instructions} (o : Option Remainder) (e : Code) (d : ℕ) → (l.asked ≡ true → Meets G zero e) → Nops l k m → Nops l (remainder_dropped y o e d k) m
-  remainder_nops None e d lo r = dropped_nops y l G enough [] [] e zero zero d lo r
+  remainder_nops None e d lo r = appended_nops (append_in e) e d refl lo r
   remainder_nops (Some q) e d lo r = all_nops y l G enough (remainder_names q) _ _ (choice (dropped_nops y l G enough [] [] e zero zero (suc d) lo none) (taken_remainder_nops q none) r)
 
   module _ {k : Instructions} {m : List Instructions} where

@@ -8,12 +8,13 @@ use Rattle.wasm_model.specs.Frames.{LabelForm}
 use Rattle.wasm_model.specs.Machines.{Conf, ProgramForm}
 use Rattle.mid_program.specs.declared.mid.Arithmetic.TheVariants as inline
 use Rattle.mid_program.specs.Mid.{Code, Eval, Global, Parameter, Set, Slot, Step, Steps, Then, form_of}
+use Rattle.lower_model.specs.Appends.{Append, append_in}
 use Rattle.lower_model.specs.Emission.{Layout, dropped, emitted, all_emitted}
 use Rattle.lower_model.specs.Places.{number_local}
 use Rattle.lower_model.specs.Quick.{Constant, Holder, OfName, OfParameter, Held, Remainder, Source, Sum, remainder_in, set_sum, source_in, sum_in, sum_names, sum_of, sum_op}
 use Rattle.lower_model.specs.Small.{text_beside, emit}
 use Rattle.lower_model.proofs.State.{holder_slot}
-use Rattle.lower_model.specs.Statements.{name_numbered, quickly_dropped, remainder_dropped, source_numbered, source_taken, step_emitted, steps_emitted, sum_taken, summed, summed_anyway, name_put}
+use Rattle.lower_model.specs.Statements.{appended_dropped, name_numbered, quickly_dropped, remainder_dropped, source_numbered, source_taken, step_emitted, steps_emitted, sum_taken, summed, summed_anyway, name_put}
 use Rattle.lower_model.proofs.QuickNames.{near_sum, some_is}
 use Rattle.agreement.specs.Quiet.Sums.{HasNoText, IsSum, constant, itself, joined as sum_of_two, name}
 use Rattle.agreement.proofs.QuietLemmas.Flowing.{Flows, arrived, at, binary, branch, compare, const64, ended, get, get_global, nop, set, set_global, tee}
@@ -93,6 +94,13 @@ module _ (m : ProgramForm) (P : Conf → Type 0) (bs : List Bool) (base : Conf) 
   no_remainder (Global false i) e p = refl
   no_remainder (Parameter false i) e p = refl
 
+  -- nor are texts put behind one
+  no_append : (x : Slot) (e : Code) → NoText x → append_in (Set x e) ≡ None
+  no_append (Global true i) e h = refl
+  no_append (Parameter true i) e h = refl
+  no_append (Global false i) e h = absurd h
+  no_append (Parameter false i) e h = refl
+
   numbered_flows : {K : List LabelForm} {k : Instructions} (x : Holder) (t d : ℕ) (L : List Word) → NoText (holder_slot x) → ((M : List Word) → Flows m P bs base K base.globals M [] k) →
       Flows m P bs base K base.globals L [] (name_numbered y x t d k)
   numbered_flows (OfName i) t d L h next =
@@ -138,7 +146,8 @@ module _ (m : ProgramForm) (P : Conf → Type 0) (bs : List Bool) (base : Conf) 
 
     quick_flows : {K : List LabelForm} (o : Option Sum) (d : ℕ) (k : Instructions) → sum_in (Set x e) ≡ o → ((gs L : List Word) → Flows m P bs base K gs L [] k) →
         Flows m P bs base K base.globals base.frame.locals [] (quickly_dropped y o (Set x e) d k)
-    quick_flows {K = K0} None d k h next = subst (λ (r : Option Remainder). Flows m P bs base K0 base.globals base.frame.locals [] (remainder_dropped y r (Set x e) d k)) (sym (no_remainder x e sum)) (dropped_flows d k next)
+    quick_flows {K = K0} None d k h next = subst (λ (r : Option Remainder). Flows m P bs base K0 base.globals base.frame.locals [] (remainder_dropped y r (Set x e) d k)) (sym (no_remainder x e sum))
+        (subst (λ (q : Option Append). Flows m P bs base K0 base.globals base.frame.locals [] (appended_dropped y q (Set x e) d k)) (sym (no_append x e target)) (dropped_flows d k next))
     quick_flows (Some s) d k h next =
         all_flows y (sum_names s) _ _ (λ v. branch (λ n q z. anyway_flows s (suc d) (sum_clear x e s h target sum) (λ gs L. ended (next gs L))) (λ n q z. summed_flows s (λ gs M. ended (next gs M))))
 

@@ -1,5 +1,5 @@
 -- The constants of the code of steps, of functions and of `main` have their widths.
-use Rattle.std.proofs.Common.{◌≡◌, ◌≤◌, ◌<◌, ◌+◌, ◌^◌, ℕ, zero, suc, Bool, true, false, List, [], ◌∷◌, length, Option, Some, None, refl, subst, arith}
+use Rattle.std.proofs.Common.{◌≡◌, ◌≤◌, ◌<◌, ◌+◌, ◌^◌, ℕ, zero, suc, Bool, true, false, List, [], ◌∷◌, length, Option, Some, None, refl, sym, subst, arith}
 use Rattle.std.specs.Int.{w64, cast_unsigned}
 use Rattle.std.specs.Prelude.{is_some, ℤ, pos, ◌+ℤ◌, unsigned_abs}
 use Rattle.awk_values.specs.declared.comparison.CompareOp.{CompareOp}
@@ -15,14 +15,16 @@ use Rattle.wasm_types.specs.declared.instr.IBinOp.{IBinOp}
 use Rattle.wasm_types.specs.declared.instr.Simple.TheVariants.{Br, I32Const, I64Const}
 use Rattle.mid_program.specs.declared.mid.Arithmetic.{Arithmetic}
 use Rattle.mid_program.specs.declared.mid.Operation.TheVariants.{Inline}
-use Rattle.mid_program.specs.Mid.{Kind, Boxed, Unboxed, ArrayKind, Parameter, Code, Get, Do, Compare, Number, Set, Let, Bound, Codes, End, At, Choose, Step, Eval, Block as Steps_, If as Either, Loop, Each, Break, Continue, Next, Exit, ExitWith, Return, Mark, Steps, NoStep, Then as AndThen, Program, Form, PrimitiveAnswer, NumberOrText, OptionalNumber, a_value, form_of}
+use Rattle.mid_program.specs.Mid.{Kind, Boxed, Unboxed, ArrayKind, Parameter, Slot, Code, Get, Do, Compare, Number, Set, Let, Bound, Codes, End, At, Choose, Step, Eval, Block as Steps_, If as Either, Loop, Each, Break, Continue, Next, Exit, ExitWith, Return, Mark, Steps, NoStep, Then as AndThen, Program, Form, PrimitiveAnswer, NumberOrText, OptionalNumber, a_value, form_of}
 use Rattle.sem_scripts.specs.Names.{ArrayName}
+use Rattle.lower_model.specs.Appends.{Append, append_in}
 use Rattle.lower_model.specs.Emission.{Layout, field_at}
 use Rattle.lower_model.specs.Places.{Bases, memory_of}
 use Rattle.lower_model.specs.Quick.{Within, test_within, both_within, compared_within, constant_in, first_ones, name_in, Holder, OfName, OfParameter, holder_of, set_after, set_alone, Source, Held, Constant, source_in, Sum, sum_names, sum_op, sum_in, Update, update_in, Tally, tally_in, Remainder, remainder_in, remainder_names, most_multiplied, multiplied, Counted, counted_in, sum_of, two_sum, set_sum, kept_sum, update_sum, old_source, stored_name, new_sum, let_sum, is_near, Pair, pair_names, pair_in, pair_of, step_jumps, is_nothing}
-use Rattle.lower_model.specs.Statements.{answer_given, returned, name_put, summed, name_numbered, source_numbered, source_taken, sum_kept, sum_taken, summed_anyway, both_asked, element_numbered, element_given, remainder_taken, remainder_dropped, barely_dropped, plainly_dropped, quickly_dropped, left_unless_counted, pair_left, left_unless_pair, left_unless, all_emptied, arrays_emptied, arrays_swept, before_parts, declared, goes_on, iterator_left, iterators_emptied, iterators_swept, key_stored, left_by, main_body, names_declared, names_made, parameters_dropped, part_done, record_done, records_read, routine_body, routines_declared, step_emitted, steps_emitted, swept, temporaries_emptied, temporaries_swept, has_functions, left_swept}
+use Rattle.lower_model.specs.Statements.{answer_given, returned, name_put, summed, name_numbered, source_numbered, source_taken, sum_kept, sum_taken, summed_anyway, both_asked, element_numbered, element_given, text_appended, chain_appended, appended_dropped, remainder_taken, remainder_dropped, barely_dropped, plainly_dropped, quickly_dropped, left_unless_counted, pair_left, left_unless_pair, left_unless, all_emptied, arrays_emptied, arrays_swept, before_parts, declared, goes_on, iterator_left, iterators_emptied, iterators_swept, key_stored, left_by, main_body, names_declared, names_made, parameters_dropped, part_done, record_done, records_read, routine_body, routines_declared, step_emitted, steps_emitted, swept, temporaries_emptied, temporaries_swept, has_functions, left_swept}
 use Rattle.std.proofs.lemmas.Bool.{leb-true}
 use Rattle.lower_model.specs.Small.{emit}
+use Rattle.lower_model.proofs.Chains.{IsChain, one_text, more_texts, append_is, last_appended}
 use Rattle.lower_model.proofs.Quick.{constant_is, shift_pos}
 use Rattle.lower_model.proofs.QuickNames.{near_sum, some_is}
 use Rattle.lower_model.proofs.Tallies.{Shape, Updating, Following, Leading, tally_code, tally_is}
@@ -180,8 +182,21 @@ module _ (y : Layout) (names : length y.names ≤ 2 ^ 24) (memory : length (memo
   taken_remainder_fits q h r =
       read_fits y q.multiple.name (multiplied_fits q.multiple.name q.multiple.factor h.0 (plain (I64Const (cast_unsigned w64 q.divisor)) (long_fits (cast_unsigned w64 q.divisor) (number_small q.divisor h.1.0)) (plain _ refl (put_fits q.target r))))
 
+  -- texts behind a name's own
+
+  text_fits : {k : Instructions} (i : ℕ) (e : Code) (d : ℕ) → Small e → Fits k → Fits (text_appended y i e d k)
+  text_fits i e d s r = emitted_fits y names memory false [] [] e zero zero d s (to_value_fits b (form_of [] e) zero (record { has = r.has }))
+
+  chain_fits : {k : Instructions} {x : Slot} {e : Code} (i d : ℕ) → IsChain x e → Small e → Fits k → Fits (chain_appended y i e d k)
+  chain_fits i d (one_text z a n q) s r = text_fits i a d s.1.0 r
+  chain_fits {k = k} i d (more_texts c a n q) s r = subst Fits (sym (last_appended y i a d k n)) (chain_fits i d n s.0 (text_fits i a d s.1.0 r))
+
+  appended_fits : {k : Instructions} (o : Option Append) (e : Code) (d : ℕ) → append_in e ≡ o → Small e → Fits k → Fits (appended_dropped y o e d k)
+  appended_fits None e d h s r = dropped_fits y names memory [] [] e zero zero d s r
+  appended_fits (Some q) e d h s r = let t = append_is e q h in chain_fits q.target d t.chain (subst Small t.code s) r
+
   remainder_fits : {k : Instructions} (o : Option Remainder) (e : Code) (d : ℕ) → remainder_in e ≡ o → Small e → Fits k → Fits (remainder_dropped y o e d k)
-  remainder_fits None e d h s r = dropped_fits y names memory [] [] e zero zero d s r
+  remainder_fits None e d h s r = appended_fits (append_in e) e d refl s r
   remainder_fits (Some q) e d h s r =
       let t = remainder_is e q h in
       let few = most_few q.multiple.factor t.factor in

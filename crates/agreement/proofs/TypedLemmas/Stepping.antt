@@ -1,5 +1,5 @@
 -- The code of steps is typed: between two steps nothing is on the stack, and each way out is a label that wants nothing.
-use Rattle.std.proofs.Common.{◌≡◌, ℕ, zero, suc, ◌+◌, ◌<◌, ◌≤◌, ◌^◌, Bool, true, false, List, [], ◌∷◌, Some, None, Option, ℤ, pos, refl, sym, ap₂, subst, arith, if◌then◌else◌}
+use Rattle.std.proofs.Common.{◌≡◌, ℕ, zero, suc, ◌+◌, ◌<◌, ◌≤◌, ◌^◌, Bool, true, false, List, [], ◌∷◌, length, Some, None, Option, ℤ, pos, refl, sym, ap₂, subst, arith, if◌then◌else◌}
 use Rattle.std.specs.Prelude.{◌&&◌, is_some}
 use Rattle.std.proofs.lemmas.Bool.{and_parts, ltb-true}
 use Rattle.awk_values.specs.declared.fault.Fault.TheVariants.{Range}
@@ -11,25 +11,27 @@ use Rattle.wasm_types.specs.Typing.{Context, CodeOk, done}
 use Rattle.wasm_types.specs.declared.types.ValType.{ValType}
 use Rattle.wasm_types.specs.declared.types.ValType.TheVariants.{I32, I64}
 use Rattle.wasm_types.specs.declared.instr.IBinOp.{IBinOp}
-use Rattle.mid_program.specs.Mid.{Kind, Unboxed, Program, Code, Get, Parameter, Step, Eval, Block, If, Loop, Each, Break, Continue, Next, Exit as ExitStep, ExitWith, Return, Mark, Steps, NoStep, Then, Choose, Form, PrimitiveAnswer, NumberOrText, OptionalNumber, a_value, form_of}
+use Rattle.mid_program.specs.Mid.{Kind, Boxed, Unboxed, Program, Slot, Code, Get, Parameter, Step, Eval, Block, If, Loop, Each, Break, Continue, Next, Exit as ExitStep, ExitWith, Return, Mark, Steps, NoStep, Then, Choose, Form, PrimitiveAnswer, NumberOrText, OptionalNumber, a_value, form_of}
 use Rattle.sem_scripts.specs.Names.{ArrayName}
 use Rattle.mid_program.specs.Sorted.{context_of, kinds_of, is_array_place, fits, is_tested, is_dropped, stores_well, sorted, test_sorted, step_sorted, steps_sorted}
+use Rattle.lower_model.specs.Appends.{Append, append_in}
 use Rattle.lower_model.specs.Emission.{dropped, field_at, tested}
 use Rattle.lower_model.specs.Functions.{layout_of}
 use Rattle.lower_model.specs.Places.{Bases, room, arrays_in, step_room, steps_room, step_arrays, steps_arrays, step_iterators, steps_iterators}
 use Rattle.lower_model.specs.Quick.{Within, test_within, Holder, OfName, OfParameter, Source, Held, Constant, Sum, sum_names, sum_op, sum_in, Update, update_in, Tally, tally_in, Remainder, remainder_in, remainder_names, most_multiplied, multiplied, Counted, counted_in, Pair, pair_names, pair_in, step_jumps, is_nothing}
 use Rattle.lower_model.specs.Small.{emit}
+use Rattle.lower_model.proofs.Chains.{IsChain, one_text, more_texts, append_is, chain_sorted, last_appended, last_sorted}
 use Rattle.lower_model.proofs.QuickParts.{HolderFits}
 use Rattle.lower_model.proofs.Remainders.{remainder_is, remainder_sorted, remainder_unboxed}
 use Rattle.lower_model.proofs.QuickSteps.{near_source, test_is, sum_is, sum_unboxed, pair_is, pair_unboxed, counted_is}
 use Rattle.lower_model.proofs.Summing.{IsSource}
 use Rattle.lower_model.proofs.Tallies.{Shape, tally_code, IsAdded, tally_is, tally_room, tally_sorted}
 use Rattle.lower_model.proofs.Updating.{UpdateParts, added_code, added_is, added_sorted}
-use Rattle.lower_model.specs.Statements.{holder_cleared, name_put, name_numbered, source_numbered, source_taken, sum_kept, sum_taken, summed_anyway, both_asked, updated, element_numbered, element_given, tallied, remainder_taken, remainder_dropped, barely_dropped, plainly_dropped, quickly_dropped, left_unless_counted, left_unless_pair, left_unless, left_by, key_stored, iterator_left, step_emitted, steps_emitted, answer_given, returned}
+use Rattle.lower_model.specs.Statements.{holder_cleared, name_put, name_numbered, source_numbered, source_taken, sum_kept, sum_taken, summed_anyway, both_asked, updated, element_numbered, element_given, tallied, text_appended, chain_appended, appended_dropped, remainder_taken, remainder_dropped, barely_dropped, plainly_dropped, quickly_dropped, left_unless_counted, left_unless_pair, left_unless, left_by, key_stored, iterator_left, step_emitted, steps_emitted, answer_given, returned}
 use Rattle.host_imports.specs.declared.import.Import.TheVariants.{OfPrimitive, Drop, IterFree}
 use Rattle.agreement.proofs.TypedLemmas.Singles.{Stack, Labels, Exit, inner, nearest, reads_global, writes_global, nothing, called, get, put, tee, read, write, word, long, binary, compare, test, discard, leave, leave_if, blocked, looped, branched}
 use Rattle.agreement.proofs.TypedLemmas.Standing.{Stands, kind_below}
-use Rattle.agreement.proofs.TypedLemmas.Pieces.{moved_out_ok, emptied_ok, copied_ok, let_go_ok, fail_if_ok, number_is_ok, kept_number_ok, number_of_value_ok, to_value_ok, to_number_ok, truth_ok}
+use Rattle.agreement.proofs.TypedLemmas.Pieces.{moved_out_ok, emptied_ok, copied_ok, let_go_ok, fail_if_ok, number_is_ok, kept_value_ok, kept_number_ok, number_of_value_ok, to_value_ok, to_number_ok, truth_ok}
 use Rattle.agreement.proofs.TypedLemmas.Slots.{array_pushed_ok, text_dropped_ok}
 use Rattle.agreement.proofs.TypedLemmas.Operands.{room_there}
 use Rattle.agreement.proofs.TypedLemmas.Sources.{unwatched, holder_read, source_ok, all_unsure_ok}
@@ -174,10 +176,37 @@ module _ {p : Program} {ks : List Kind} {b : Bases} {C : Context} (at : Stands p
     remainder_taken_ok : {k : Instructions} (q : Remainder) → HolderFits p unwatched ks [] b 0 0 q.multiple.name → HolderFits p unwatched ks [] b 0 0 q.target → CodeOk C L k [] rs → CodeOk C L (remainder_taken (layout_of p b) q k) [] rs
     remainder_taken_ok q hn ht r = holder_read at q.multiple.name hn (multiplied_ok q.multiple.factor (long (binary (holder_put q.target ht r))))
 
+  -- texts behind a name's own
+  module _ {L : Labels} {rs : Stack} where
+    text_appended_ok : {k : Instructions} {i d : ℕ} (e : Code) → i < length (kinds_of p.globals) → sorted (context_of p ks) [] e ≡ true → room e ≤ b.temporaries → arrays_in e ≤ b.arrays → Exit L d →
+        CodeOk C L k [] rs → CodeOk C L (text_appended (layout_of p b) i e d k) [] rs
+    text_appended_ok {i = i} {d = d} e li s h g x r =
+        let he = room_there e in
+        let lt : 0 < b.temporaries = omega (arith, h, he) in
+        code_ok at false [] [] e 0 0 d (none_below b.temporaries lt) s (omega (arith, h)) (omega (arith, g)) x
+        (to_value_ok at (form_of [] e) lt (read (at.name_handle i li) (moved_out_ok at (at.handle 0 lt) (called [] (at.imported (OfPrimitive row.Concat))
+        (kept_value_ok at true lt x (moved_out_ok at (at.handle 0 lt) (write (at.name_handle i li) r)))))))
+
+    chain_appended_ok : {k : Instructions} {y : Slot} {e : Code} {i d : ℕ} → IsChain y e → i < length (kinds_of p.globals) → sorted (context_of p ks) [] e ≡ true → room e ≤ b.temporaries →
+        arrays_in e ≤ b.arrays → Exit L d → CodeOk C L k [] rs → CodeOk C L (chain_appended (layout_of p b) i e d k) [] rs
+    chain_appended_ok (one_text z a n q) li s h g x r = text_appended_ok a li (last_sorted (context_of p ks) (Get z) a s).1 (omega (arith, h)) (omega (arith, g)) x r
+    chain_appended_ok {k = k} {i = i} {d = d} (more_texts c a n q) li s h g x r =
+        let t = last_sorted (context_of p ks) c a s in
+        subst (λ (j : Instructions). CodeOk C L j [] rs) (sym (last_appended (layout_of p b) i a d k n))
+        (chain_appended_ok n li t.0 (omega (arith, h)) (omega (arith, g)) x (text_appended_ok a li t.1 (omega (arith, h)) (omega (arith, g)) x r))
+
+    appended_dropped_ok : {k : Instructions} (o : Option Append) (e : Code) (d : ℕ) → append_in e ≡ o → sorted (context_of p ks) [] e ≡ true → room e ≤ b.temporaries → arrays_in e ≤ b.arrays → Exit L d →
+        CodeOk C L k [] rs → CodeOk C L (appended_dropped (layout_of p b) o e d k) [] rs
+    appended_dropped_ok None e d eq s h g x r = let he = room_there e in dropped_ok [] [] e 0 0 d (none_below b.temporaries (omega (arith, h, he))) s (omega (arith, h)) (omega (arith, g)) x r
+    appended_dropped_ok (Some q) e d eq s h g x r =
+        let t = append_is e q eq in
+        let u = chain_sorted (context_of p ks) q.target q.chain (subst (λ (c : Code). sorted (context_of p ks) [] c ≡ true) t.code s) in
+        chain_appended_ok t.chain (kind_below (kinds_of p.globals) q.target Boxed u.0) u.1 (subst (λ (c : Code). room c ≤ b.temporaries) t.code h) (subst (λ (c : Code). arrays_in c ≤ b.arrays) t.code g) x r
+
   module _ {L : Labels} {k : Instructions} {rs : Stack} where
     remainder_dropped_ok : (o : Option Remainder) (e : Code) (d : ℕ) → remainder_in e ≡ o → sorted (context_of p ks) [] e ≡ true → room e ≤ b.temporaries → arrays_in e ≤ b.arrays → Exit L d →
         CodeOk C L k [] rs → CodeOk C L (remainder_dropped (layout_of p b) o e d k) [] rs
-    remainder_dropped_ok None e d eq s h g x r = let he = room_there e in dropped_ok [] [] e 0 0 d (none_below b.temporaries (omega (arith, h, he))) s (omega (arith, h)) (omega (arith, g)) x r
+    remainder_dropped_ok None e d eq s h g x r = appended_dropped_ok (append_in e) e d refl s h g x r
     remainder_dropped_ok (Some q) e d eq s h g x r =
         let he = room_there e in
         let t = remainder_sorted p unwatched ks [] b 0 0 q (subst (λ (c : Code). sorted (context_of p ks) [] c ≡ true) (remainder_is e q eq).code s) in

@@ -14,16 +14,18 @@ use Rattle.wasm_types.specs.declared.instr.ITestOp.TheVariants.{Eqz}
 use Rattle.wasm_types.specs.declared.instr.Simple.TheVariants.{Br, BrIf, Compare, Convert, GlobalGet, GlobalSet, I32Const, LocalGet, LocalSet, Nop, Test}
 use Rattle.wasm_types.specs.declared.types.ValType.TheVariants as ty
 use Rattle.sem_scripts.specs.Names.{ArrayName}
-use Rattle.mid_program.specs.Mid.{Kind, Boxed, Unboxed, ArrayKind, Parameter, Code, Get, Choose, Let, Form, PrimitiveAnswer, NumberOrText, OptionalNumber, Step, Eval, Block as Steps_, If as Either, Loop, Each, Break, Continue, Next, Exit, ExitWith, Return, Mark, Steps, NoStep, Then as AndThen, Program, a_value, form_of, parameters_at}
+use Rattle.mid_program.specs.Mid.{Kind, Boxed, Unboxed, ArrayKind, Parameter, Slot, Code, Get, Choose, Let, Form, PrimitiveAnswer, NumberOrText, OptionalNumber, Step, Eval, Block as Steps_, If as Either, Loop, Each, Break, Continue, Next, Exit, ExitWith, Return, Mark, Steps, NoStep, Then as AndThen, Program, a_value, form_of, parameters_at}
 use Rattle.mid_program.specs.Sorted.{Context, all_sorted, calls_of, context_of, fits, is_array_place, is_dropped, is_kept, is_tested, keeps_well, sorted, step_sorted, steps_sorted, stores_well, test_sorted}
+use Rattle.lower_model.specs.Appends.{Append, append_in}
 use Rattle.lower_model.specs.Cells.{cell_at}
 use Rattle.lower_model.specs.Emission.{Layout, asked, dropped, field_at, tested}
 use Rattle.lower_model.specs.Machine.{zeros}
 use Rattle.wasm_types.specs.declared.types.ValType.{ValType}
-use Rattle.lower_model.specs.Places.{Bases, answer_local, array_local, handle_local, handle_types, iterator_local, local_types, number_global, number_local, status_global, temporary_types, text_global, way_global}
+use Rattle.lower_model.specs.Places.{Bases, answer_local, array_local, handle_global, handle_local, handle_types, iterator_local, local_types, number_global, number_local, status_global, temporary_types, text_global, way_global}
 use Rattle.lower_model.specs.Quick.{Within, test_within, Source, Holder, OfName, OfParameter, Held, Constant, Sum, sum_names, sum_op, sum_in, Update, update_in, Tally, tally_in, Remainder, remainder_in, remainder_names, multiplied, Counted, counted_in, Pair, pair_names, pair_in, step_jumps, is_nothing}
-use Rattle.lower_model.specs.Small.{ask_row, emit, emit_if}
-use Rattle.lower_model.specs.Statements.{again, answer_given, returned, routine_ended, left_by, pair_left, summed, way_exit, way_next, name_numbered, source_numbered, source_taken, sum_kept, sum_taken, summed_anyway, field_numbered, both_asked, element_numbered, element_given, remainder_taken, remainder_dropped, barely_dropped, plainly_dropped, quickly_dropped, left_unless_counted, left_unless_pair, left_unless, all_emptied, arrays_emptied, arrays_swept, block, first_part, goes_on, has_functions, iterator_left, iterators_emptied, iterators_swept, key_stored, last_part, left_swept, main_body, names_declared, names_made, parameters_dropped, part_done, record_done, records_read, routine_body, routines_declared, step_emitted, steps_emitted, swept, temporaries_emptied, temporaries_swept, name_put}
+use Rattle.lower_model.specs.Small.{ask_row, emit, emit_if, kept_value, moved_out}
+use Rattle.lower_model.specs.Statements.{again, answer_given, returned, routine_ended, left_by, pair_left, summed, way_exit, way_next, name_numbered, source_numbered, source_taken, sum_kept, sum_taken, summed_anyway, field_numbered, both_asked, element_numbered, element_given, text_appended, chain_appended, appended_dropped, remainder_taken, remainder_dropped, barely_dropped, plainly_dropped, quickly_dropped, left_unless_counted, left_unless_pair, left_unless, all_emptied, arrays_emptied, arrays_swept, block, first_part, goes_on, has_functions, iterator_left, iterators_emptied, iterators_swept, key_stored, last_part, left_swept, main_body, names_declared, names_made, parameters_dropped, part_done, record_done, records_read, routine_body, routines_declared, step_emitted, steps_emitted, swept, temporaries_emptied, temporaries_swept, name_put}
+use Rattle.lower_model.proofs.Chains.{IsChain, one_text, more_texts, append_is, chain_sorted, last_appended, last_sorted}
 use Rattle.lower_model.proofs.Tallies.{Shape, Updating, Following, Leading, tally_code, tally_is, tally_sorted}
 use Rattle.lower_model.proofs.Updating.{added_code, added_is}
 use Rattle.agreement.specs.Words.Naming.{is_argv, names_argv, step_names, steps_name}
@@ -149,8 +151,31 @@ module _ (tells : Bool) (y : Layout) (sizes : ℕ → Option ℕ) (whole : Progr
     anyway_spares : (x : Sum) (d : ℕ) → So e (summed_anyway y x d k)
     anyway_spares x d = numbered_spares (numbered_spares (taken_spares (taken_spares (sum_spares r (sum_op x.op) x.target zero d) x.right 1) x.left zero) x.right 1 d) x.left zero d
 
+    -- texts behind a name's own
+    text_spares : (i : ℕ) (s : Code) (d : ℕ) → sorted c [] s ≡ true → names_argv s ≡ false → So e (text_appended y i s d k)
+    text_spares i s d o q = emitted_spares tells y sizes c sized same (to_value_spares tells y sizes joined (form_of [] s) zero) false [] [] s zero zero d none_kept o q
+      where
+        joined : So e (emit (GlobalGet (handle_global y.ranges i)) (moved_out (handle_local b zero) (ask_row row.Concat (kept_value b true zero d (moved_out (handle_local b zero) (emit (GlobalSet (handle_global y.ranges i)) k))))))
+        joined = record { so = λ A. (true, (λ q. named tells y sizes i), (refl, (refl, r.so A))) }
+
+  module _ {e : Bool} where
+    chain_spares : {k : Instructions} {x : Slot} {s : Code} (r : So e k) (i d : ℕ) → IsChain x s → sorted c [] s ≡ true → names_argv s ≡ false → So e (chain_appended y i s d k)
+    chain_spares r i d (one_text z a n m) o q =
+        text_spares r i a d (last_sorted c (Get z) a o).1 (or_none (names_argv a) false q).0
+    chain_spares {k = k} r i d (more_texts p a n m) o q =
+        let t = last_sorted c p a o in
+        let u = or_none (names_argv p) (names_argv a || false) q in
+        subst (So e) (sym (last_appended y i a d k n)) (chain_spares (text_spares r i a d t.1 (or_none (names_argv a) false u.1).0) i d n t.0 u.0)
+
+    appended_spares : {k : Instructions} (r : So e k) (o : Option Append) (s : Code) (d : ℕ) → append_in s ≡ o → sorted c [] s ≡ true → names_argv s ≡ false → So e (appended_dropped y o s d k)
+    appended_spares r None s d h o q = dropped_spares tells y sizes c sized same r [] [] s zero zero d none_kept o q
+    appended_spares r (Some x) s d h o q =
+        let t = append_is s x h in
+        chain_spares r x.target d t.chain (chain_sorted c x.target x.chain (subst (λ z. sorted c [] z ≡ true) t.code o)).1 (subst (λ z. names_argv z ≡ false) t.code q)
+
+  module _ {e : Bool} {k : Instructions} (r : So e k) where
     remainder_spares : (o : Option Remainder) (s : Code) (d : ℕ) → sorted c [] s ≡ true → names_argv s ≡ false → So e (remainder_dropped y o s d k)
-    remainder_spares None s d o q = dropped_spares tells y sizes c sized same r [] [] s zero zero d none_kept o q
+    remainder_spares None s d o q = appended_spares r (append_in s) s d refl o q
     remainder_spares (Some x) s d o q = all_spares tells y sizes both (remainder_names x) _ _
       where
         slow : So false (dropped y [] [] s zero zero (suc d) Done)
