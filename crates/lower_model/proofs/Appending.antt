@@ -43,7 +43,7 @@ use Rattle.lower_model.proofs.Calls.{called}
 use Rattle.lower_model.proofs.State.{cells_of, host_of, kind_here, arrays_before, name_hand}
 use Rattle.lower_model.proofs.Relation.{HoldsAt, Fit, fit_hand, fit_more, fit_less, fit_shared, Away}
 use Rattle.lower_model.proofs.Answers.{machine, beside_state, done_by, answered_by, reply, Reached}
-use Rattle.lower_model.proofs.Chains.{texts_sorted, target_sorted}
+use Rattle.lower_model.proofs.Chains.{last_sorted, chain_sorted}
 use Rattle.lower_model.proofs.Converting.{Converted, converted_ok}
 use Rattle.lower_model.proofs.HostCalls.{calm_after}
 use Rattle.lower_model.proofs.Reading.{kind_below, kind_found}
@@ -51,6 +51,7 @@ use Rattle.lower_model.proofs.SettingNames.{boxed_written}
 use Rattle.lower_model.proofs.Simulation.{work_of, room_one, context, layout, meant, Done, ExprOk, still_stands}
 use Rattle.lower_model.proofs.StatementForms.{flows_on, plain_meant, Starts, ready, starts_after, StepDone}
 use Rattle.lower_model.proofs.Still.{with_state, FaultAlone, EndsStill, code_still}
+use Rattle.lower_model.proofs.Worn.{text_given, away_less, away_lost}
 use Rattle.lower_model.proofs.Written.{fit_global}
 
 -- What such code means.
@@ -123,7 +124,7 @@ module _ (p : Program) (deepest : Observer) (ks : List Kind) (F : List Frame) (b
 
   -- where a name has given its value away
   abbrev pub given_away : ℕ → State → List Cell
-  given_away i σ = placed p.ranges names (with_global_at p.ranges names (cells_of kinds 0 σ) (NameHand i) Gone)
+  given_away i σ = placed p.ranges names (text_given p i σ)
 
   -- after a call that answers with a value, or meets a fault
   abbrev after_concat : ℕ → Result Value Fault → State → Store
@@ -159,14 +160,7 @@ module _ (p : Program) (deepest : Observer) (ks : List Kind) (F : List Frame) (b
     pub fit : Fit p deepest ks F 0 u 0 next (with_global i z σ)
     pub iterators : (x : ℕ) → next.iterator x ≡ l.iterator x
 
-  abbrev pub Lost : Type 0
-  Lost = (i : ℕ) (v : Value) (x : Fault) (u d : ℕ) (K : List Label) (l : Locals) (σ : State) → has_kind kinds i Boxed ≡ true → Fit p deepest ks F 0 u 0 l (with_global i v σ) →
-      Away p deepest ks F b d K (Faulted x) σ (br d ks K (laid b l) F (storing (given_away i (with_global i v σ)) (host_of σ (Some x))))
-
-  abbrev pub Less : Type 0
-  Less = (i : ℕ) (v : Value) (x : Fault) (d : ℕ) (K : List Label) (τ : State) (c : Conf) → has_kind kinds i Boxed ≡ true → Away p deepest ks F b d K (Faulted x) (with_global i v τ) c → Away p deepest ks F b d K (Faulted x) τ c
-
-  module _ (lost : Lost) (less : Less) (i : ℕ) (hk : has_kind kinds i Boxed ≡ true) (roomy : 0 < b.temporaries) where
+  module _ (i : ℕ) (hk : has_kind kinds i Boxed ≡ true) (roomy : 0 < b.temporaries) where
     li : i < names
     li = kind_below kinds i Boxed hk
 
@@ -196,7 +190,7 @@ module _ (p : Program) (deepest : Observer) (ks : List Kind) (F : List Frame) (b
     put_back (Err x) v u d k K l σ ft =
         let l1 = with_at l (Hand 0) empty in
         let f1 = fit_less p deepest ks F 0 u 0 l1 (with_global i v σ) (upd_same l.hand 0 empty) (fit_hand p deepest ks F 0 1 u 0 l (with_global i v σ) empty (inl refl) (omega arith) (fit_more p deepest ks F 0 u 0 l (with_global i v σ) ft)) in
-        faulted (machine p deepest ks F) M 8 3 _ _ x σ (Appended i u k K l) (Away p deepest ks F b d K) (value_failed b l 0 d roomy (ap is_owned (ft.free 0 (omega arith)))) (omega arith) (lost i v x u d K l1 σ hk f1)
+        faulted (machine p deepest ks F) M 8 3 _ _ x σ (Appended i u k K l) (Away p deepest ks F b d K) (value_failed b l 0 d roomy (ap is_owned (ft.free 0 (omega arith)))) (omega arith) (away_lost p deepest ks F b i v x u d K l1 σ hk f1)
 
     -- a text stands in the first temporary, and goes behind the name's own
     put_behind : (f : Form) (y : Holds f) (v : Value) (u d : ℕ) (k : Instructions) (K : List Label) (l : Locals) (τ : State) → fits f sort.Value ≡ true → Fit p deepest ks F 1 u 0 l (with_global i v τ) → HoldsAt f 0 l y →
@@ -246,7 +240,7 @@ module _ (p : Program) (deepest : Observer) (ks : List Kind) (F : List Frame) (b
         arrives_after (machine p deepest ks F) M r.steps 40 (w + 40) l τ.turns c r.conf P1 (Away p deepest ks F b d K) (f a τ) r.goes (record { down = r.cost.down; paid = r.cost.paid; few = omega (arith, r.cost.few) }) (next a τ r.conf r.cost.down r.holds)
     carried v w l d K c P P1 σ (Stops (Faulted x) τ) f h r next =
         let q = r.cost.few in
-        record { conf = r.conf; steps = r.steps; goes = r.goes; cost = record { down = r.cost.down; paid = r.cost.paid; few = omega (arith, q) }; holds = less i v x d K τ r.conf hk r.holds }
+        record { conf = r.conf; steps = r.steps; goes = r.goes; cost = record { down = r.cost.down; paid = r.cost.paid; few = omega (arith, q) }; holds = away_less p deepest ks F b i v x d K τ r.conf hk r.holds }
     carried v w l d K c P P1 σ (Stops OutOfTurns τ) f h r next = no_fault OutOfTurns h.0 refl
     carried v w l d K c P P1 σ (Stops TooDeep τ) f h r next = no_fault TooDeep h.0 refl
     carried v w l d K c P P1 σ (Stops Nexted τ) f h r next = no_fault Nexted h.0 refl
@@ -275,6 +269,13 @@ module _ (p : Program) (deepest : Observer) (ks : List Kind) (F : List Frame) (b
 
     -- A chain.
 
+    text_fits : (l e : Code) → sorted (context p deepest ks F b M n) [] (Do (Host row.Concat) (At l (At e End))) ≡ true → fits (form_of [] e) sort.Value ≡ true
+    unfolding sorted all_sorted
+    text_fits l e so =
+        let f = fits (form_of [] l) sort.Value && (fits (form_of [] e) sort.Value && true) in
+        let s = and_parts f (all_sorted (context p deepest ks F b M n) [] (At l (At e End))) so in
+        (and_parts (fits (form_of [] e) sort.Value) true (and_parts (fits (form_of [] l) sort.Value) (fits (form_of [] e) sort.Value && true) s.0).1).0
+
     name_got : (w : Bool) (σ : State) → E (Get (Global w i)) σ ≡ Gives (read_as w (global_value i σ)) σ
     unfolding evaluated
     name_got w σ = refl
@@ -296,7 +297,7 @@ module _ (p : Program) (deepest : Observer) (ks : List Kind) (F : List Frame) (b
           let c = Do (Host row.Concat) (At (Get (Global w i)) (At e End)) in
           let f = form_of [] e in
           let v = global_value i σ in
-          let q = texts_sorted p ks (Get (Global w i)) e so in
+          let q = last_sorted (context p deepest ks F b M n) (Get (Global w i)) e so in
           let means : E c σ ≡ go_on {A = Holds f} {B = Value} (E e σ) (λ y. call row.Concat (concat_row v (boxed f y))) =
           concat_means (Get (Global w i)) e σ
           ∙ (ap (λ m. joined (read_form w) f m (E e)) (name_got w σ)
@@ -304,7 +305,7 @@ module _ (p : Program) (deepest : Observer) (ks : List Kind) (F : List Frame) (b
           let from : State → Type 0 = λ τ. Reached p deepest ks F b M (work_of e + 40) σ.turns (at ks [] K (laid b l) F (Text i e d k) (beside_state p deepest ks F τ)) (Appended i u k K l) (Away p deepest ks F b d K) (go_on {A = Holds f} {B = Value} (E e σ) (λ y. call row.Concat (concat_row v (boxed f y)))) in
           subst (λ r. Reached p deepest ks F b M (work_of c) σ.turns (at ks [] K (laid b l) F (Text i e d k) (beside_state p deepest ks F σ)) (Appended i u k K l) (Away p deepest ks F b d K) r) (sym means)
           (within (machine p deepest ks F) M (work_of e + 40) (work_of c) σ.turns _ (Appended i u k K l) (Away p deepest ks F b d K) _ (omega arith)
-          (subst from (global_same i σ) (one_ok e (exprs e) st q.fit q.last (omega (arith, rm)) (omega (arith, ar)) v u d k K l σ (subst (Starts p deepest ks F b M n u K l) (sym (global_same i σ)) s))))
+          (subst from (global_same i σ) (one_ok e (exprs e) st (text_fits (Get (Global w i)) e so) q.1 (omega (arith, rm)) (omega (arith, ar)) v u d k K l σ (subst (Starts p deepest ks F b M n u K l) (sym (global_same i σ)) s))))
 
       -- another one goes behind the text so far
       further : (es : Codes) (e : Code) → is_still (Global false i) e ≡ true → Chained es → Chained (At (Do (Host row.Concat) es) (At e End))
@@ -315,15 +316,15 @@ module _ (p : Program) (deepest : Observer) (ks : List Kind) (F : List Frame) (b
           let Q = Away p deepest ks F b d K in
           let P = Appended i u k K l in
           let k1 = Text i e d k in
-          let q = texts_sorted p ks c0 e so in
+          let q = last_sorted (context p deepest ks F b M n) c0 e so in
           subst (λ r. Reached p deepest ks F b M (work_of c) σ.turns (at ks [] K (laid b l) F (chain_appended (layout p deepest ks F b M n) i c0 d k1) (beside_state p deepest ks F σ)) P Q r) (sym (concat_means c0 e σ))
           (then_on (machine p deepest ks F) M (work_of c0) (work_of e + 40) (work_of c) σ.turns _ (Appended i u k1 K l) P Q (E c0 σ) _ (omega arith)
-          (ok q.before (omega (arith, rm)) (omega (arith, ar)) u d k1 K l σ s)
+          (ok q.0 (omega (arith, rm)) (omega (arith, ar)) u d k1 K l σ s)
           (λ v τ c1 le a.
           let l1 = a.next in
           first (machine p deepest ks F) M 0 (work_of e + 40) (work_of e + 40) τ.turns c1 _ P Q _ (same_goes a.comes) (omega arith)
           (weaker (machine p deepest ks F) M (work_of e + 40) τ.turns _ (Appended i u k K l1) P Q Q _ (λ z υ c2 h. record { next = h.next; comes = h.comes; fit = h.fit; iterators = λ x. h.iterators x ∙ a.iterators x }) (λ why υ c2 h. h)
-          (one_ok e (exprs e) st q.fit q.last (omega (arith, rm)) (omega (arith, ar)) v u d k K l1 τ (starts_after p deepest ks F b M n u K K l l1 σ (with_global i v τ) s refl le a.iterators a.fit)))))
+          (one_ok e (exprs e) st (text_fits c0 e so) q.1 (omega (arith, rm)) (omega (arith, ar)) v u d k K l1 τ (starts_after p deepest ks F b M n u K K l l1 σ (with_global i v τ) s refl le a.iterators a.fit)))))
 
       mutual
         pub chain_ok : (es : Codes) → is_chain (Global false i) (Do (Host row.Concat) es) ≡ true → Chained es
@@ -347,20 +348,20 @@ module _ (p : Program) (deepest : Observer) (ks : List Kind) (F : List Frame) (b
   unfolding evaluated stepped
   statement_means i es σ = stored_by i (E (Do (Host row.Concat) es) σ)
 
-  pub appended_ok : Lost → Less → (i : ℕ) (c : Code) → is_chain (Global false i) c ≡ true → ((x : Code) → ExprOk p deepest ks F b M n x) → (lo : Bool) (u d bk ct : ℕ) (k : Instructions) (K : List Label) (l : Locals) (σ : State) →
+  pub appended_ok : (i : ℕ) (c : Code) → is_chain (Global false i) c ≡ true → ((x : Code) → ExprOk p deepest ks F b M n x) → (lo : Bool) (u d bk ct : ℕ) (k : Instructions) (K : List Label) (l : Locals) (σ : State) →
       sorted (context p deepest ks F b M n) [] (Set (Global false i) c) ≡ true → room c ≤ b.temporaries → arrays_in c ≤ b.arrays → Starts p deepest ks F b M n u K l σ →
       Reached p deepest ks F b M (work_of c) σ.turns (at ks [] K (laid b l) F (chain_appended (layout p deepest ks F b M n) i c d k) (beside_state p deepest ks F σ)) (StepDone p deepest ks F b M n lo u bk ct k K l) (Away p deepest ks F b d K)
       (plain_meant p deepest ks F b M n (Eval (Set (Global false i) c)) σ)
-  appended_ok lost less i (Do (Host row.Concat) es) h exprs lo u d bk ct k K l σ so rm ar s =
+  appended_ok i (Do (Host row.Concat) es) h exprs lo u d bk ct k K l σ so rm ar s =
       let c = Do (Host row.Concat) es in
-      let q = target_sorted p ks i c so in
+      let q = chain_sorted (context p deepest ks F b M n) i c so in
       let P = StepDone p deepest ks F b M n lo u bk ct k K l in
       let Q = Away p deepest ks F b d K in
       let r1 = room_one c in
       subst (λ r. Reached p deepest ks F b M (work_of c) σ.turns (at ks [] K (laid b l) F (chain_appended (layout p deepest ks F b M n) i c d k) (beside_state p deepest ks F σ)) P Q r) (sym (statement_means i es σ))
       (then_on (machine p deepest ks F) M (work_of c) 0 (work_of c) σ.turns _ (Appended i u k K l) P Q (E c σ) _ (omega arith)
-      (chain_ok lost less i q.0 (omega (arith, rm, r1)) exprs es h q.1 rm ar u d k K l σ s)
+      (chain_ok i q.0 (omega (arith, rm, r1)) exprs es h q.1 rm ar u d k K l σ s)
       (λ v τ c1 le a.
       there (machine p deepest ks F) M 0 0 c1 c1 Normal (with_global i v τ) P Q stays (omega arith)
       (record { next = a.next; comes = a.comes; starts = starts_after p deepest ks F b M n u K K l a.next σ (with_global i v τ) s refl le a.iterators a.fit; iterators = a.iterators; flows = flows_on lo })))
-  appended_ok lost less i c h exprs lo u d bk ct k K l σ so rm ar s = never h
+  appended_ok i c h exprs lo u d bk ct k K l σ so rm ar s = never h

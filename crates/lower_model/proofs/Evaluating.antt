@@ -20,7 +20,7 @@ use Rattle.lower_model.proofs.Sequences.{dropped_ok}
 use Rattle.lower_model.proofs.Tallies.{tally_is}
 use Rattle.lower_model.proofs.Tallying.{tallied_ok}
 use Rattle.lower_model.proofs.Remainders.{IsRemainder, remainder_is, remainder_ok, remainder_code}
-use Rattle.lower_model.proofs.Appending.{Lost, Less, appended_ok}
+use Rattle.lower_model.proofs.Appending.{appended_ok}
 use Rattle.lower_model.proofs.Chains.{append_is}
 use Rattle.lower_model.proofs.Updating.{added_is, updated_ok}
 
@@ -36,17 +36,17 @@ module _ (p : Program) (deepest : Observer) (ks : List Kind) (F : List Frame) (b
     more c w w1 e le f so rm ar =
         within (machine p deepest ks F) M (work_of e + w) (work_of e + w1) σ.turns _ (StepDone p deepest ks F b M n lo u bk ct k K l) (Away p deepest ks F b d K) (plain_meant p deepest ks F b M n (Eval e) σ) (omega (arith, le)) (f so rm ar)
 
-    alone_ok : Lost p deepest ks F b M n → Less p deepest ks F b M n → (o : Option Append) (e : Code) → append_in e ≡ o → Does (appended_dropped (layout p deepest ks F b M n) o e d k) 8 e
-    alone_ok lost less None e eq = λ so rm ar. dropped_ok p deepest ks F b M n e (exprs e) lo u d bk ct k K l σ so rm ar s
-    alone_ok lost less (Some q) e eq =
+    alone_ok : (o : Option Append) (e : Code) → append_in e ≡ o → Does (appended_dropped (layout p deepest ks F b M n) o e d k) 8 e
+    alone_ok None e eq = λ so rm ar. dropped_ok p deepest ks F b M n e (exprs e) lo u d bk ct k K l σ so rm ar s
+    alone_ok (Some q) e eq =
         let t = append_is e q eq in
         subst (Does (appended_dropped (layout p deepest ks F b M n) (Some q) e d k) 8) (sym t.code)
         (λ so rm ar. within (machine p deepest ks F) M (work_of q.chain) _ σ.turns _ (StepDone p deepest ks F b M n lo u bk ct k K l) (Away p deepest ks F b d K) _ (omega arith)
-        (appended_ok p deepest ks F b M n lost less q.target q.chain t.so exprs lo u d bk ct k K l σ so rm ar s))
+        (appended_ok p deepest ks F b M n q.target q.chain t.so exprs lo u d bk ct k K l σ so rm ar s))
 
-    rest_ok : Lost p deepest ks F b M n → Less p deepest ks F b M n → (o : Option Remainder) (e : Code) → remainder_in e ≡ o → Does (remainder_dropped (layout p deepest ks F b M n) o e d k) 30 e
-    rest_ok lost less None e eq = more (remainder_dropped (layout p deepest ks F b M n) None e d k) 8 30 e (omega arith) (alone_ok lost less (append_in e) e refl)
-    rest_ok lost less (Some q) e eq =
+    rest_ok : (o : Option Remainder) (e : Code) → remainder_in e ≡ o → Does (remainder_dropped (layout p deepest ks F b M n) o e d k) 30 e
+    rest_ok None e eq = more (remainder_dropped (layout p deepest ks F b M n) None e d k) 8 30 e (omega arith) (alone_ok (append_in e) e refl)
+    rest_ok (Some q) e eq =
         let t = remainder_is e q eq in
         subst (λ (c : Code). IsRemainder c q → Does (remainder_dropped (layout p deepest ks F b M n) (Some q) c d k) 30 c) (sym t.code)
         (λ i so rm ar. remainder_ok p deepest ks F b M n q (exprs (remainder_code q)) i lo u d bk ct k K l σ so rm ar s) t

@@ -93,4 +93,3 @@ pub mod Wholes
 pub mod Following
 pub mod Observer
 pub mod Silent
-pub mod Chains
