@@ -8,41 +8,40 @@ use Rattle.awk_values.specs.declared.fault.Fault.{Fault}
 use Rattle.awk_values.specs.declared.value.Value.{Value}
 use Rattle.awk_values.specs.declared.value.Value.TheVariants as value
 use Rattle.sem_primitives.specs.Sorts.{Row}
-use Rattle.sem_primitives.specs.Table.{arguments_of, answer_of, meaning}
+use Rattle.sem_primitives.specs.Table.{arguments_of, meaning}
 use Rattle.sem_primitives.specs.declared.sorts.Answer.TheVariants as answer
 use Rattle.sem_primitives.specs.declared.sorts.Sort.TheVariants as sort
 use Rattle.sem_primitives.specs.declared.table.Primitive.TheVariants as row
 use Rattle.wasm_types.specs.Syntax.{Instructions}
 use Rattle.wasm_types.specs.declared.instr.Simple.TheVariants.{GlobalGet, GlobalSet}
 use Rattle.mid_program.specs.declared.mid.Operation.TheVariants.{Host}
-use Rattle.mid_program.specs.Mid.{Kind, Boxed, Program, Declared, Slot, Global, Parameter, Code, Do, Get, Set, Codes, End, At, Eval, Form, PrimitiveAnswer, a_value, form_of, read_form}
-use Rattle.mid_program.specs.MidMeaning.{Holds, boxed, read_as, row_of, evaluated, all_evaluated, stepped}
-use Rattle.mid_program.specs.Sorted.{There, calls_of, has_kind, kinds_of, is_slot, takes, fits, fit_row, sorted, all_sorted}
+use Rattle.mid_program.specs.Mid.{Kind, Boxed, Program, Declared, Global, Code, Do, Get, Set, Codes, End, At, Eval, Form, a_value, form_of, read_form}
+use Rattle.mid_program.specs.MidMeaning.{Holds, boxed, read_as, evaluated, all_evaluated, stepped}
+use Rattle.mid_program.specs.Sorted.{There, calls_of, has_kind, kinds_of, fits, sorted, all_sorted}
 use Rattle.sem_scripts.specs.ScriptState.{State, Stop, Faulted, OutOfTurns, TooDeep, Nexted, Exited, Returned, Outcome, Gives, Stops, Execution, go_on, ◌>>◌, give, change, settled, call, global_value, with_global}
 use Rattle.sem_scripts.specs.Statements.{Flow, Normal}
 use Rattle.lower_model.specs.Appends.{is_still, is_name, is_chain}
 use Rattle.lower_model.specs.Cells.{Cell, Held, Gone, is_owned}
 use Rattle.lower_model.specs.ImportCalls.{Acts, replied, primitive_acts}
 use Rattle.host_imports.specs.declared.import.Import.TheVariants.{OfPrimitive}
-use Rattle.lower_model.specs.Emission.{emitted}
 use Rattle.lower_model.specs.Noted.{noted_called}
-use Rattle.lower_model.specs.Machine.{Conf, Label, Frame, Store, at, br, onto}
-use Rattle.lower_model.specs.Places.{Bases, handle_local, handle_global, room, rooms, arrays_in, arrays_among}
+use Rattle.lower_model.specs.Machine.{Conf, Label, Frame, Store, at, onto}
+use Rattle.lower_model.specs.Places.{Bases, handle_local, handle_global, room, arrays_in}
 use Rattle.lower_model.specs.Small.{emit, ask_row, moved_out, kept_value}
 use Rattle.lower_model.specs.Small
 use Rattle.lower_model.specs.Statements.{text_appended, chain_appended}
 use Rattle.lower_model.proofs.Observer.{Observer}
-use Rattle.lower_model.proofs.Runs.{Goes, goes_to, goes_from, same_goes, then_goes, stays, first, within, there, faulted, weaker, then_on, then_settled, arrives_after, Arrives, Reaches}
+use Rattle.lower_model.proofs.Runs.{Goes, goes_to, goes_from, same_goes, then_goes, stays, first, within, there, faulted, weaker, then_on, then_settled, arrives_after, Arrives}
 use Rattle.lower_model.proofs.Regions.{upd_same}
-use Rattle.lower_model.proofs.Locals.{Locals, Hand, with_at, has_with, laid, laid_twice, laid_again}
+use Rattle.lower_model.proofs.Locals.{Locals, Hand, with_at, laid}
 use Rattle.lower_model.proofs.Steps.{empty, moved_out_ok}
-use Rattle.lower_model.proofs.Globals.{Globals, Hand as NameHand, global_of, has_global, with_global_at, has_global_with, placed, placed_twice}
+use Rattle.lower_model.proofs.Globals.{Hand as NameHand, has_global, with_global_at, has_global_with, placed, placed_twice}
 use Rattle.lower_model.proofs.GlobalSteps.{storing, comes_back, global_moved, global_set_ok}
 use Rattle.lower_model.proofs.Pieces.{value_kept, value_failed}
 use Rattle.lower_model.proofs.Calls.{called}
-use Rattle.lower_model.proofs.State.{cells_of, host_of, kind_here, arrays_before, name_hand}
+use Rattle.lower_model.proofs.State.{cells_of, host_of, arrays_before, name_hand}
 use Rattle.lower_model.proofs.Relation.{HoldsAt, Fit, fit_hand, fit_more, fit_less, fit_shared, Away}
-use Rattle.lower_model.proofs.Answers.{machine, beside_state, done_by, answered_by, reply, Reached}
+use Rattle.lower_model.proofs.Answers.{machine, beside_state, done_by, reply, Reached}
 use Rattle.lower_model.proofs.Chains.{last_sorted, chain_sorted}
 use Rattle.lower_model.proofs.Converting.{Converted, converted_ok}
 use Rattle.lower_model.proofs.HostCalls.{calm_after}
@@ -85,7 +84,6 @@ second_by f g v (Stops why υ) = refl
 concat_by : (f g : Form) (m : Outcome (Holds f)) (n : Execution (Holds g)) → concat_of f g (go_on {A = Holds f} {B = Two f g} m (λ v τ. two_of f g v (one_of g (n τ)))) ≡ joined f g m n
 concat_by f g (Gives v τ) n = second_by f g v (n τ)
 concat_by f g (Stops why τ) n = refl
-
 
 abbrev is_fault : Stop → Bool
 is_fault (Faulted x) = true
@@ -195,7 +193,7 @@ module _ (p : Program) (deepest : Observer) (ks : List Kind) (F : List Frame) (b
     -- a text stands in the first temporary, and goes behind the name's own
     put_behind : (f : Form) (y : Holds f) (v : Value) (u d : ℕ) (k : Instructions) (K : List Label) (l : Locals) (τ : State) → fits f sort.Value ≡ true → Fit p deepest ks F 1 u 0 l (with_global i v τ) → HoldsAt f 0 l y →
         Reached p deepest ks F b M 40 τ.turns (at ks [] K (laid b l) F (Small.to_value b f zero
-            (emit (GlobalGet (handle_global p.ranges i)) (moved_out (handle_local b zero) (ask_row row.Concat (kept_value b true zero d (moved_out (handle_local b zero) (emit (GlobalSet (handle_global p.ranges i)) k))))))) (beside_state p deepest ks F (with_global i v τ)))
+        (emit (GlobalGet (handle_global p.ranges i)) (moved_out (handle_local b zero) (ask_row row.Concat (kept_value b true zero d (moved_out (handle_local b zero) (emit (GlobalSet (handle_global p.ranges i)) k))))))) (beside_state p deepest ks F (with_global i v τ)))
         (Appended i u k K l) (Away p deepest ks F b d K) (call row.Concat (concat_row v (boxed f y)) τ)
     put_behind f y v u d k K l τ ff ft hd =
         let mach = machine p deepest ks F in

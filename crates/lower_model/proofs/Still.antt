@@ -17,7 +17,7 @@ use Rattle.mid_program.specs.declared.mid.Operation.TheVariants.{Host, Inline, A
 use Rattle.mid_program.specs.Mid.{Kind, Slot, Global, Parameter, Code, Do, Over, Compare, Call, Ask, AskLine, FileLine, Replace, Number, Text, Unset, Get, Set, Array, IsOpen, Choose, Seq, Let, Bound, Codes, End, At, Fixed, Fresh, Form, form_of, arguments}
 use Rattle.mid_program.specs.MidMeaning.{Env, evaluated, all_evaluated, operated, or_zero, read_as, read_slot, listing, row_of, converted, truth_in, boxed, arithmetic_of}
 use Rattle.sem_scripts.specs.Names.{ArrayName, Numbered, Given}
-use Rattle.sem_scripts.specs.ScriptState.{State, Scalar, Stop, Faulted, Outcome, Gives, Stops, Execution, ◌>>=◌, ◌>>◌, go_on, give, settled, or_fault, perform, look, array_in_local, value_in_local, local_array, global_value, local_value}
+use Rattle.sem_scripts.specs.ScriptState.{State, Scalar, Stop, Faulted, Outcome, Gives, Stops, Execution, ◌>>=◌, go_on, give, settled, or_fault, perform, look, array_in_local, value_in_local, local_array, global_value, local_value}
 use Rattle.sem_scripts.specs.Steps.{array_number, field_checked}
 use Rattle.sem_scripts.specs.Items.{range_open}
 use Rattle.sem_scripts.specs.Meaning.{Calls}
