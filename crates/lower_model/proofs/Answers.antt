@@ -40,7 +40,7 @@ use Rattle.lower_model.proofs.Regions.{upd_same}
 use Rattle.lower_model.proofs.Steps.{empty, set_ok}
 use Rattle.lower_model.proofs.Calls.{called}
 use Rattle.lower_model.proofs.GlobalSteps.{while_assigning}
-use Rattle.lower_model.proofs.State.{store, gone, word_not_least}
+use Rattle.lower_model.proofs.State.{store, gone, word_not_least, faulted_left}
 use Rattle.lower_model.proofs.Relation.{HoldsBy, HoldsAt, Same, same_hand, same_number, same_self, Fit, fit_loose, fit_hand, fit_number, fit_more, Away}
 use Rattle.lower_model.proofs.Pieces.{code_kept, code_failed, code_stored, value_kept, value_failed, number_kept, number_failed, done_kept, done_failed, done_dropped}
 
@@ -174,6 +174,8 @@ module _ (p : Program) (deepest : Observer) (ks : List Kind) (F : List Frame) wh
         Away p deepest ks F b d K (Faulted f) σ (br d ks K (laid b (with_at l (NumberAt t) (Bits (I64 m)))) F (left_beside (Faulted f) σ))
     away_with t u w d m K l σ f ft = record {
       next = with_at l (NumberAt t) (Bits (I64 m));
+      store = left_beside (Faulted f) σ;
+      left = faulted_left p.ranges (kinds_of p.globals) 0 f σ;
       comes = refl;
       loose = fit_loose p deepest ks F t u w (with_at l (NumberAt t) (Bits (I64 m))) σ (fit_number p deepest ks F t t u w l σ (Bits (I64 m)) refl ft);
       answer = ft.answer;
@@ -182,7 +184,15 @@ module _ (p : Program) (deepest : Observer) (ks : List Kind) (F : List Frame) wh
 
     pub away_plain : (t u w d : ℕ) (K : List Label) (l : Locals) (σ : State) (f : Fault) → Fit p deepest ks F t u w l σ →
         Away p deepest ks F b d K (Faulted f) σ (br d ks K (laid b l) F (left_beside (Faulted f) σ))
-    away_plain t u w d K l σ f ft = record { next = l; comes = refl; loose = fit_loose p deepest ks F t u w l σ ft; answer = ft.answer; after = tt }
+    away_plain t u w d K l σ f ft = record {
+      next = l;
+      store = left_beside (Faulted f) σ;
+      left = faulted_left p.ranges (kinds_of p.globals) 0 f σ;
+      comes = refl;
+      loose = fit_loose p deepest ks F t u w l σ ft;
+      answer = ft.answer;
+      after = tt;
+    }
 
     pub hand_free : (t u w : ℕ) (l : Locals) (σ : State) → Fit p deepest ks F t u w l σ → is_owned (l.hand t) ≡ false
     hand_free t u w l σ f = ap is_owned (f.free t (omega arith))
@@ -196,6 +206,8 @@ module _ (p : Program) (deepest : Observer) (ks : List Kind) (F : List Frame) wh
         faulted machine M 4 3 _ _ f σ (Put b t u w (PrimitiveAnswer (answer.Of sort.Value)) k K l) (Away p deepest ks F b d K) (value_failed b l t d lt (hand_free t u w l σ ft)) (omega arith)
         (record {
           next = with_at l (Hand t) empty;
+          store = left_beside (Faulted f) σ;
+          left = faulted_left p.ranges (kinds_of p.globals) 0 f σ;
           comes = refl;
           loose = fit_loose p deepest ks F (suc t) u w (with_at l (Hand t) empty) σ (fit_hand p deepest ks F t (suc t) u w l σ empty (inl refl) (omega arith) (fit_more p deepest ks F t u w l σ ft));
           answer = ft.answer;

@@ -18,7 +18,7 @@ use Rattle.sem_scripts.specs.ScriptState.{State, Stop, Faulted, OutOfTurns, TooD
 use Rattle.mid_program.specs.Sorted.{sorted, all_sorted, held_after_all, fits, is_given, fit_call, is_array_place, context_of, calls_of, kinds_of}
 use Rattle.lower_model.specs.Cells.{Cell, Bits, Held, OwnedArray, LentArray, Gone, is_owned, has_owner}
 use Rattle.lower_model.specs.Emission.{array_meant, emitted, all_emitted, all_given, all_given_pushed, all_freed, function_number}
-use Rattle.lower_model.specs.Machine.{Conf, Deep, Label, Frame, array_kinds, at, br, owner_waits, loops_walked, makes_few, waits}
+use Rattle.lower_model.specs.Machine.{Conf, Deep, Label, Frame, Store, array_kinds, at, br, owner_waits, loops_walked, makes_few, waits}
 use Rattle.lower_model.specs.Noted.{noted_called}
 use Rattle.lower_model.specs.Places.{Bases, made_in, arrays_among as arrays_in_codes}
 use Rattle.lower_model.specs.Small.{emit, answer_kept}
@@ -27,10 +27,10 @@ use Rattle.lower_model.proofs.Runs.{Goes, then_goes, goes_to, goes_from, stays, 
 use Rattle.lower_model.proofs.Regions.{upd_same, upd_other}
 use Rattle.lower_model.proofs.Locals.{Locals, Hand, Number as NumberAt, Array as Yard, local_of, with_at, has_with, laid, laid_at, laid_twice, laid_again}
 use Rattle.lower_model.proofs.Steps.{empty, unanswered, get_moved, get_copied, tee_ok, moved_out_ok}
-use Rattle.lower_model.proofs.State.{bare, beside, bare_number, beside_number, AnswerIs, answering}
+use Rattle.lower_model.proofs.State.{bare, beside, bare_number, beside_number, AnswerIs, answering, StoreLeft}
 use Rattle.lower_model.proofs.Relation.{HoldsAt, Meant, IsArray, ParamIs, array_at, kept_same, same_then, Sound, StopSound, StopLeaves, left_to, Fit, fit_loose, fit_hand, fit_number, fit_array, fit_less, WasLeft, Away, holds_same}
 use Rattle.lower_model.proofs.Pieces.{free_array_ok, answer_failed}
-use Rattle.lower_model.proofs.Answers.{machine, beside_state, left_beside}
+use Rattle.lower_model.proofs.Answers.{machine, beside_state}
 use Rattle.lower_model.proofs.Answering.{taken_ok}
 use Rattle.lower_model.proofs.Arrays.{owner_at, array_pushed_ok}
 use Rattle.lower_model.proofs.Converting.{Converted, converted_ok}
@@ -356,7 +356,9 @@ module _ (p : Program) (deepest : Observer) (ks : List Kind) (F : List Frame) (b
 
   -- it was left, or was too deep
   pub record LeftCall (K : List Label) (L : List Cell) (rest : Instructions) (why : Stop) (σ1 : State) (c : Conf) : Type 0 where
-    pub comes : c ≡ left_to why (at ks (unanswered ∷ []) K L F rest (left_beside p deepest ks F why σ1)) (Deep (beside_state p deepest ks F σ1))
+    pub store : Store
+    pub left : StoreLeft p.ranges (kinds_of p.globals) why σ1 store
+    pub comes : c ≡ left_to why (at ks (unanswered ∷ []) K L F rest store) (Deep store)
     pub none : NoReturn why
     pub after : StopSound p deepest ks F why σ1
 
@@ -409,12 +411,14 @@ module _ (p : Program) (deepest : Observer) (ks : List Kind) (F : List Frame) (b
 
       failed : (why : Stop) → ((x y : Conf) → left_to why x y ≡ x) → LeftCall K (laid b l) (answer_kept b t d k) why σ1 c → Onward (machine p deepest ks F) M 9 (WasLeft p deepest ks F b d K why σ1) c
       failed why g a = record {
-        conf = br d ks K (laid b l1) F (left_beside p deepest ks F why σ1);
+        conf = br d ks K (laid b l1) F a.store;
         steps = 9;
         few = omega arith;
         goes = goes_from (a.comes ∙ g _ _) (answer_failed b l t d lt (ft.numbers t));
         holds = record {
           next = l1;
+          store = a.store;
+          left = a.left;
           comes = sym (g _ _);
           loose = fit_loose p deepest ks F t u y l1 σ (fit_number p deepest ks F t t u y l σ unanswered refl ft);
           answer = ft.answer;
@@ -423,7 +427,7 @@ module _ (p : Program) (deepest : Observer) (ks : List Kind) (F : List Frame) (b
       }
 
       by : (why : Stop) → LeftCall K (laid b l) (answer_kept b t d k) why σ1 c → Onward (machine p deepest ks F) M 9 (Away p deepest ks F b d K why σ1) c
-      by TooDeep a = record { conf = c; steps = 0; few = omega arith; goes = stays; holds = record { next = l; comes = a.comes; loose = fit_loose p deepest ks F t u y l σ ft; answer = ft.answer; after = tt } }
+      by TooDeep a = record { conf = c; steps = 0; few = omega arith; goes = stays; holds = record { next = l; store = a.store; left = a.left; comes = a.comes; loose = fit_loose p deepest ks F t u y l σ ft; answer = ft.answer; after = tt } }
       by (Faulted f) a = failed (Faulted f) (λ x z. refl) a
       by OutOfTurns a = failed OutOfTurns (λ x z. refl) a
       by Nexted a = failed Nexted (λ x z. refl) a

@@ -33,13 +33,14 @@ chain_is x e h = cc
 -- a name that takes a chain
 pub record Takes (e : Code) (q : Append) : Type 0 where
   pub code : e ≡ Set (Global false q.target) q.chain
+  pub so : is_chain (Global false q.target) q.chain ≡ true
   pub chain : IsChain (Global false q.target) q.chain
 
 pub append_is : (e : Code) (q : Append) → append_in e ≡ Some q → Takes e q
 append_is (Set (Global false i) c) q h = by (is_chain (Global false i) c) refl h
   where
     by : (z : Bool) → is_chain (Global false i) c ≡ z → append_of i c z ≡ Some q → Takes (Set (Global false i) c) q
-    by true k g = subst (Takes (Set (Global false i) c)) (some_is (record { target = i; chain = c }) q g) (record { code = refl; chain = chain_is (Global false i) c k })
+    by true k g = subst (Takes (Set (Global false i) c)) (some_is (record { target = i; chain = c }) q g) (record { code = refl; so = k; chain = chain_is (Global false i) c k })
     by false k g = cc
 append_is e q h = cc
 

@@ -25,7 +25,7 @@ use Rattle.wasm_store.specs.declared.word.Word.TheVariants.{I64}
 use Rattle.wasm_store.specs.Words.{flag}
 use Rattle.mid_program.specs.Mid.{Kind, Program, Form, PrimitiveAnswer, NumberOrText, OptionalNumber}
 use Rattle.mid_program.specs.MidMeaning.{Holds, converted, boxed}
-use Rattle.mid_program.specs.Sorted.{fits}
+use Rattle.mid_program.specs.Sorted.{fits, kinds_of}
 use Rattle.sem_scripts.specs.Steps.{zero_number, one_number, minus_one, numeric, truth_number}
 use Rattle.sem_scripts.specs.ScriptState.{State, Faulted, Outcome, Gives, settled}
 use Rattle.lower_model.specs.Cells.{Cell, Bits, Held, is_owned}
@@ -38,7 +38,7 @@ use Rattle.lower_model.proofs.Runs.{Goes, by_steps, then_goes, goes_to, goes_fro
 use Rattle.lower_model.proofs.Regions.{upd_same, upd_other}
 use Rattle.lower_model.proofs.Locals.{Locals, Hand, Number as NumberAt, with_at, laid}
 use Rattle.lower_model.proofs.Steps.{empty, get_copied, set_ok, moved_out_ok}
-use Rattle.lower_model.proofs.State.{perhaps, word_not_least, BareIs, IsBeside, IsNone, IsNumber}
+use Rattle.lower_model.proofs.State.{perhaps, word_not_least, BareIs, IsBeside, IsNone, IsNumber, faulted_left}
 use Rattle.lower_model.proofs.Relation.{HoldsAt, Fit, fit_loose, fit_hand, fit_number, Away, away_out}
 use Rattle.lower_model.proofs.Pieces.{chooses, closes, number_is_ok, number_kept, number_failed}
 use Rattle.lower_model.proofs.Answers.{machine, beside_state, left_beside, reply, after_reply, Reached}
@@ -129,6 +129,8 @@ module _ (p : Program) (deepest : Observer) (ks : List Kind) (F : List Frame) (b
           leaves : Fit p deepest ks F q i w (with_at l (Hand t) empty) σ → Away p deepest ks F b d K (Faulted g) σ (br d ks K (laid b (with_at (with_at l (Hand t) empty) (NumberAt t) (Bits (I64 least)))) F (left_beside p deepest ks F (Faulted g) σ))
           leaves f1 = record {
             next = with_at (with_at l (Hand t) empty) (NumberAt t) (Bits (I64 least));
+            store = left_beside p deepest ks F (Faulted g) σ;
+            left = faulted_left p.ranges (kinds_of p.globals) 0 g σ;
             comes = refl;
             loose = fit_loose p deepest ks F q i w (with_at (with_at l (Hand t) empty) (NumberAt t) (Bits (I64 least))) σ (fit_number p deepest ks F t q i w (with_at l (Hand t) empty) σ (Bits (I64 least)) refl f1);
             answer = f1.answer;

@@ -1,5 +1,5 @@
 -- The end of `main`, with the status that the script has, and how whole runs show: what the machine comes to is what the script's run is.
-use Rattle.std.proofs.Common.{◌≡◌, ℕ, zero, suc, ◌+◌, ◌*◌, ◌^◌, ◌<◌, ◌≤◌, cond, true, [], length, Some, None, Option, ℤ, pos, negsuc, unsigned_abs, w64, refl, ap, ◌∙◌, arith}
+use Rattle.std.proofs.Common.{◌≡◌, inl, inr, ℕ, zero, suc, ◌+◌, ◌*◌, ◌^◌, ◌<◌, ◌≤◌, cond, true, [], length, Some, None, ℤ, pos, negsuc, unsigned_abs, w64, refl, ap, ◌∙◌, arith}
 use Rattle.std.specs.Prelude.{◌%◌, ◌&&◌}
 use Rattle.std.proofs.lemmas.Bool.{lt-ltb}
 use Rattle.std.specs.Int.{cast_unsigned, int_rem_euclid}
@@ -13,9 +13,9 @@ use Rattle.wasm_types.specs.declared.instr.CvtOp.TheVariants.{I32WrapI64}
 use Rattle.wasm_store.specs.declared.word.Word.TheVariants.{I32, I64}
 use Rattle.mid_program.specs.Mid.{Kind, Boxed, Unboxed, ArrayKind, Program}
 use Rattle.sem_scripts.specs.ScriptRun.{Setting, Ended, ending}
-use Rattle.sem_scripts.specs.ScriptState.{State, Faulted, OutOfTurns, TooDeep, Nexted, Exited, Returned, Outcome, Gives, Stops}
+use Rattle.sem_scripts.specs.ScriptState.{State, global_value, Faulted, OutOfTurns, TooDeep, Nexted, Exited, Returned, Outcome, Gives, Stops}
 use Rattle.mid_program.specs.Sorted.{kinds_of}
-use Rattle.lower_model.specs.Cells.{Bits, is_owned, none_owned, ended_name, globals_by, tidy_name}
+use Rattle.lower_model.specs.Cells.{Cell, Bits, is_owned, none_owned, ended_name, globals_by, tidy_name}
 use Rattle.lower_model.specs.Follows.{ShownWith}
 use Rattle.lower_model.specs.Functions.{layout_of}
 use Rattle.lower_model.specs.Machine.{Notes, Conf, Over, Store, at, ending_at, ending_name, guarded}
@@ -30,11 +30,11 @@ use Rattle.lower_model.proofs.Globals.{Globals, Status, placed}
 use Rattle.lower_model.proofs.GlobalSteps.{global_copied, storing}
 use Rattle.lower_model.proofs.Locals.{Locals, laid}
 use Rattle.lower_model.proofs.Steps.{unanswered}
-use Rattle.lower_model.proofs.State.{beside, name_hand, cells_of, host_of, store_with, BareOf, IsBeside, IsNone, IsNumber}
+use Rattle.lower_model.proofs.State.{beside, name_hand, kind_here, arrays_before, cells_of, host_of, store_with, HandWorn, Worn, BareOf, IsBeside, IsNone, IsNumber}
 use Rattle.lower_model.proofs.Relation.{Loose}
 use Rattle.lower_model.proofs.Conversions.{bare_is}
 use Rattle.lower_model.proofs.Answers.{machine}
-use Rattle.lower_model.proofs.Tidy.{globals_fine, name_tidy}
+use Rattle.lower_model.proofs.Tidy.{placed_fine, globals_fine, name_tidy}
 use Rattle.lower_model.proofs.Exits.{sweep_ok, unowned_laid}
 
 -- the low eight bits of a status are its remainder
@@ -50,10 +50,11 @@ beside_ended v (IsBeside e e1) = ap (ended_name Unboxed) e1
 beside_ended v (IsNone e e1 e2) = ap (ended_name Unboxed) e2
 beside_ended v (IsNumber m e e1 e2) = ap (ended_name Unboxed) e2
 
-name_ended : (k : Kind) (a : ℕ) (v : Value) → ended_name k (name_hand k a v) ≡ true
-name_ended Boxed a v = refl
-name_ended Unboxed a v = beside_ended v (bare_is v)
-name_ended ArrayKind a v = refl
+worn_ended : (k : Kind) (a : ℕ) (v : Value) (c : Cell) → HandWorn k (name_hand k a v) c → ended_name k c ≡ true
+worn_ended Boxed a v c (inl e) = ap (ended_name Boxed) e
+worn_ended Boxed a v c (inr q) = ap (ended_name Boxed) q.1
+worn_ended Unboxed a v c e = ap (ended_name Unboxed) e ∙ beside_ended v (bare_is v)
+worn_ended ArrayKind a v c e = ap (ended_name ArrayKind) e
 
 abbrev pub main_exit_work : Bases → ℕ
 main_exit_work b = 8 * (b.temporaries + (b.iterators + b.arrays)) + 3
@@ -89,12 +90,20 @@ module _ (p : Program) (deepest : Observer) (b : Bases) where
             ∙ ap (λ t. guarded (true && t) (Over v G)) fine))));
       }
 
-  pub main_ends : (way : ℕ) (fault : Option Fault) (l : Locals) (σ : State) → zero ≡ b.parameters → Loose p deepest [] [] l → l.answer ≡ unanswered → MainEnds (number_word σ.status) (store_with p.ranges (kinds_of p.globals) way fault σ) l
-  main_ends way fault l σ none lo an = main_ends_by (cells_of (kinds_of p.globals) way σ) (host_of σ fault) (number_word σ.status) l none lo an refl (by fault)
-    where
-      by : (o : Option Fault) → globals_by (ending_name o) (suc (suc (suc p.ranges))) (kinds_of p.globals) (placed p.ranges (length (kinds_of p.globals)) (cells_of (kinds_of p.globals) way σ)) ≡ true
-      by None = globals_fine p tidy_name way σ name_tidy
-      by (Some f) = globals_fine p ended_name way σ name_ended
+  pub main_ends : (way : ℕ) (l : Locals) (σ : State) → zero ≡ b.parameters → Loose p deepest [] [] l → l.answer ≡ unanswered →
+      MainEnds (number_word σ.status) (store_with p.ranges (kinds_of p.globals) way None σ) l
+  main_ends way l σ none lo an =
+      main_ends_by (cells_of (kinds_of p.globals) way σ) (host_of σ None) (number_word σ.status) l none lo an refl (globals_fine p tidy_name way σ name_tidy)
+
+  -- a fault is kept
+  pub kept_ends : (way : ℕ) (f : Fault) (l : Locals) (σ : State) (g : Globals) → zero ≡ b.parameters → Loose p deepest [] [] l → l.answer ≡ unanswered →
+      Worn (kinds_of p.globals) (cells_of (kinds_of p.globals) way σ) g →
+      MainEnds (number_word σ.status) (storing (placed p.ranges (length (kinds_of p.globals)) g) (host_of σ (Some f))) l
+  kept_ends way f l σ g none lo an w =
+      let kinds = kinds_of p.globals in
+      main_ends_by g (host_of σ (Some f)) (number_word σ.status) l none lo an w.status
+      (placed_fine p ended_name g (ap is_owned w.way) (ap is_owned w.status) (ap is_owned w.text) (λ i. ap is_owned (w.range i))
+      (λ i. worn_ended (kind_here kinds i) (suc (suc (arrays_before kinds i))) (global_value i σ) (g.hand i) (w.hand i)) (λ i. ap is_owned (w.number i)))
 
   -- how it shows then
   pub shows_ended : (way : ℕ) (σ : State) → ending_at (Over (Bits (I32 (number_word σ.status % 2 ^ 32))) (store_with p.ranges (kinds_of p.globals) way None σ)) ≡ Some (Ended (unsigned_abs (int_rem_euclid σ.status.number (pos 256))) σ.shared.output)

@@ -6,8 +6,9 @@ use Rattle.sem_scripts.specs.ScriptState.{State}
 use Rattle.mid_program.specs.Sorted.{sorted}
 use Rattle.lower_model.specs.Machine.{Label, Frame, at}
 use Rattle.lower_model.specs.Places.{Bases, room, arrays_in}
+use Rattle.lower_model.specs.Appends.{Append, append_in}
 use Rattle.lower_model.specs.Quick.{Update, update_in, Tally, tally_in, Remainder, remainder_in}
-use Rattle.lower_model.specs.Statements.{remainder_dropped, barely_dropped, plainly_dropped}
+use Rattle.lower_model.specs.Statements.{appended_dropped, remainder_dropped, barely_dropped, plainly_dropped}
 use Rattle.lower_model.proofs.Observer.{Observer}
 use Rattle.lower_model.proofs.Runs.{within}
 use Rattle.lower_model.proofs.Locals.{Locals, laid}
@@ -19,6 +20,8 @@ use Rattle.lower_model.proofs.Sequences.{dropped_ok}
 use Rattle.lower_model.proofs.Tallies.{tally_is}
 use Rattle.lower_model.proofs.Tallying.{tallied_ok}
 use Rattle.lower_model.proofs.Remainders.{IsRemainder, remainder_is, remainder_ok, remainder_code}
+use Rattle.lower_model.proofs.Appending.{appended_ok}
+use Rattle.lower_model.proofs.Chains.{append_is}
 use Rattle.lower_model.proofs.Updating.{added_is, updated_ok}
 
 module _ (p : Program) (deepest : Observer) (ks : List Kind) (F : List Frame) (b : Bases) (M n : ℕ) where
@@ -33,8 +36,16 @@ module _ (p : Program) (deepest : Observer) (ks : List Kind) (F : List Frame) (b
     more c w w1 e le f so rm ar =
         within (machine p deepest ks F) M (work_of e + w) (work_of e + w1) σ.turns _ (StepDone p deepest ks F b M n lo u bk ct k K l) (Away p deepest ks F b d K) (plain_meant p deepest ks F b M n (Eval e) σ) (omega (arith, le)) (f so rm ar)
 
+    alone_ok : (o : Option Append) (e : Code) → append_in e ≡ o → Does (appended_dropped (layout p deepest ks F b M n) o e d k) 8 e
+    alone_ok None e eq = λ so rm ar. dropped_ok p deepest ks F b M n e (exprs e) lo u d bk ct k K l σ so rm ar s
+    alone_ok (Some q) e eq =
+        let t = append_is e q eq in
+        subst (Does (appended_dropped (layout p deepest ks F b M n) (Some q) e d k) 8) (sym t.code)
+        (λ so rm ar. within (machine p deepest ks F) M (work_of q.chain) _ σ.turns _ (StepDone p deepest ks F b M n lo u bk ct k K l) (Away p deepest ks F b d K) _ (omega arith)
+        (appended_ok p deepest ks F b M n q.target q.chain t.so exprs lo u d bk ct k K l σ so rm ar s))
+
     rest_ok : (o : Option Remainder) (e : Code) → remainder_in e ≡ o → Does (remainder_dropped (layout p deepest ks F b M n) o e d k) 30 e
-    rest_ok None e eq = more (remainder_dropped (layout p deepest ks F b M n) None e d k) 8 30 e (omega arith) (λ so rm ar. dropped_ok p deepest ks F b M n e (exprs e) lo u d bk ct k K l σ so rm ar s)
+    rest_ok None e eq = more (remainder_dropped (layout p deepest ks F b M n) None e d k) 8 30 e (omega arith) (alone_ok (append_in e) e refl)
     rest_ok (Some q) e eq =
         let t = remainder_is e q eq in
         subst (λ (c : Code). IsRemainder c q → Does (remainder_dropped (layout p deepest ks F b M n) (Some q) c d k) 30 c) (sym t.code)

@@ -29,10 +29,10 @@ use Rattle.lower_model.proofs.Runs.{Goes, goes_to, goes_from, then_goes, by_step
 use Rattle.lower_model.proofs.Regions.{cells, pairs, cells_same, pairs_same}
 use Rattle.lower_model.proofs.Locals.{Locals, Answer, with_at, laid}
 use Rattle.lower_model.proofs.Steps.{empty, unanswered, set_ok}
-use Rattle.lower_model.proofs.State.{AnswerIs, Nothing, answering}
+use Rattle.lower_model.proofs.State.{AnswerIs, Nothing, answering, StoreLeft}
 use Rattle.lower_model.proofs.Relation.{ParamIs, Loose, Sound, StopSound, Away, fit_loose, left_to}
 use Rattle.lower_model.proofs.Pieces.{closes}
-use Rattle.lower_model.proofs.Answers.{machine, beside_state, left_beside}
+use Rattle.lower_model.proofs.Answers.{machine, beside_state}
 use Rattle.lower_model.proofs.StatementForms.{steps_work, steps_meant, StepsOk, StepDone}
 use Rattle.lower_model.proofs.Stepping.{steps_ok}
 use Rattle.lower_model.proofs.Simulation.{ExprOk}
@@ -114,7 +114,9 @@ module _ (p : Program) (deepest : Observer) where
 
   -- a call that stops the script answers that, and the caller is to leave too
   pub record Lost (f : Frame) (F : List Frame) (why : Stop) (σ : State) (c : Conf) : Type 0 where
-    pub comes : c ≡ left_to why (at f.kinds (unanswered ∷ f.under) f.labels f.locals F f.rest (left_beside p deepest f.kinds F why σ)) (Deep (beside_state p deepest f.kinds F σ))
+    pub store : Store
+    pub left : StoreLeft p.ranges (kinds_of p.globals) why σ store
+    pub comes : c ≡ left_to why (at f.kinds (unanswered ∷ f.under) f.labels f.locals F f.rest store) (Deep store)
     pub after : StopSound p deepest f.kinds F why σ
 
   module _ (M n : ℕ) (js : List Kind) (f : Frame) (F : List Frame) (b : Bases) (size : length js ≡ b.parameters) (own : CallFrame) (room : length F + own.calls_left ≡ deepest.callers) where
@@ -193,16 +195,16 @@ module _ (p : Program) (deepest : Observer) where
         (record { word = q.word; text = q.text; is = q.is; comes = refl; sound = sound_back σ q.after; own = refl })) h
     came w m c l0 (Stops (Faulted x) σ) h =
         reaches_on (machine p deepest js (f ∷ F)) M (exit_work b) w (w + (exit_work b + 3)) m σ.turns c _ (Lost f F (Faulted x) (record σ { own = own })) (omega arith)
-        (λ c1 q. left_exits (left_beside p deepest js (f ∷ F) (Faulted x) σ) q.next c1 (Lost f F (Faulted x) (record σ { own = own })) q.loose q.answer q.comes (record { comes = refl; after = tt })) h
+        (λ c1 q. left_exits q.store q.next c1 (Lost f F (Faulted x) (record σ { own = own })) q.loose q.answer q.comes (record { store = q.store; left = q.left; comes = refl; after = tt })) h
     came w m c l0 (Stops Nexted σ) h =
         reaches_on (machine p deepest js (f ∷ F)) M (exit_work b) w (w + (exit_work b + 3)) m σ.turns c _ (Lost f F Nexted (record σ { own = own })) (omega arith)
-        (λ c1 q. left_exits (left_beside p deepest js (f ∷ F) Nexted σ) q.next c1 (Lost f F Nexted (record σ { own = own })) q.loose q.answer q.comes (record { comes = refl; after = sound_back σ q.after.0 })) h
+        (λ c1 q. left_exits q.store q.next c1 (Lost f F Nexted (record σ { own = own })) q.loose q.answer q.comes (record { store = q.store; left = q.left; comes = refl; after = sound_back σ q.after.0 })) h
     came w m c l0 (Stops Exited σ) h =
         reaches_on (machine p deepest js (f ∷ F)) M (exit_work b) w (w + (exit_work b + 3)) m σ.turns c _ (Lost f F Exited (record σ { own = own })) (omega arith)
-        (λ c1 q. left_exits (left_beside p deepest js (f ∷ F) Exited σ) q.next c1 (Lost f F Exited (record σ { own = own })) q.loose q.answer q.comes (record { comes = refl; after = sound_back σ q.after.0 })) h
+        (λ c1 q. left_exits q.store q.next c1 (Lost f F Exited (record σ { own = own })) q.loose q.answer q.comes (record { store = q.store; left = q.left; comes = refl; after = sound_back σ q.after.0 })) h
     came w m c l0 (Stops TooDeep σ) h =
         reaches_on (machine p deepest js (f ∷ F)) M 0 w (w + (exit_work b + 3)) m σ.turns c _ (Lost f F TooDeep (record σ { own = own })) (omega arith)
-        (λ c1 q. record { conf = c1; steps = 0; few = omega arith; goes = stays; holds = record { comes = q.comes; after = tt } }) h
+        (λ c1 q. record { conf = c1; steps = 0; few = omega arith; goes = stays; holds = record { store = q.store; left = q.left; comes = q.comes; after = tt } }) h
     came w m c l0 (Stops OutOfTurns σ) h = within (machine p deepest js (f ∷ F)) M w (w + (exit_work b + 3)) m c (Back f F own) (Lost f F) (Stops OutOfTurns (record σ { own = own })) (omega arith) h
 
     -- a function runs, from its beginning to its exit
@@ -324,7 +326,7 @@ module _ (p : Program) (deepest : Observer) where
           steps = 0;
           goes = ap (λ t. cond t (begins f ks F K L k words (beside_state p deepest ks F σ)) (Deep (beside_state p deepest ks F σ))) deep;
           cost = record { down = omega arith; paid = omega arith; few = omega arith };
-          holds = record { comes = refl; after = tt };
+          holds = record { store = beside_state p deepest ks F σ; left = refl; comes = refl; after = tt };
         }
     pushed n f (suc room) calls lt ks F K L k words os σ given s le e =
         let r = routine_at p.routines f in

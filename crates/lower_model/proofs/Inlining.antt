@@ -5,7 +5,6 @@ use Rattle.std.proofs.lemmas.Int.{ints, fits_signed_from_abs, to_z-of_z, rem_bel
 use Rattle.std.proofs.lemmas.Bool.{and_parts, eq-eqb, cases_lt, le-leb}
 use Rattle.std.proofs.Math.Nat.{mul-le-mul_left}
 use Rattle.awk_values.specs.Operators.{Outcome as Checked, is_zero, checked}
-use Rattle.awk_values.specs.declared.fault.Fault.{Fault}
 use Rattle.awk_values.specs.declared.fault.Fault.TheVariants.{Range, DivisionByZero, Inexact}
 use Rattle.sem_primitives.specs.Numbers.{Number, number_word, or_range, outcome_of}
 use Rattle.sem_primitives.specs.Sorts.{Row}
@@ -29,12 +28,12 @@ use Rattle.mid_program.specs.declared.mid.Arithmetic.TheVariants as inline
 use Rattle.mid_program.specs.declared.mid.Operation.TheVariants.{Inline}
 use Rattle.mid_program.specs.Mid.{Kind, Program, Form, a_number, Do, Codes, End, At, Fixed, Fresh}
 use Rattle.mid_program.specs.MidMeaning.{Env, evaluated, all_evaluated, arithmetic_of}
-use Rattle.sem_scripts.specs.ScriptState.{State, Stop, Faulted, Outcome, settled}
+use Rattle.sem_scripts.specs.ScriptState.{State, Stop, Outcome, settled}
 use Rattle.mid_program.specs.Sorted.{Held as Standing, sorted, all_sorted, held_after, fit_row}
 use Rattle.lower_model.specs.Arithmetic.{out_of_range, two_numbers, ranged, any_product, far_off, times, unless_zero, unless_broken, divided, calculated}
 use Rattle.lower_model.specs.Cells.{Cell, Bits}
 use Rattle.lower_model.specs.Emission.{all_emitted, all_converted}
-use Rattle.lower_model.specs.Machine.{Conf, Label, Frame, Store, at, br, label, loops_walked, with_operands, push_result}
+use Rattle.lower_model.specs.Machine.{Conf, Label, Frame, Store, at, label, loops_walked, with_operands, push_result}
 use Rattle.lower_model.specs.Places.{Bases, calculated_room, room, arrays_in, number_local}
 use Rattle.lower_model.specs.Small.{emit, fail_if}
 use Rattle.lower_model.proofs.Observer.{Observer}
@@ -42,8 +41,8 @@ use Rattle.lower_model.proofs.Runs.{Goes, then_goes, goes_to, by_steps, stays, t
 use Rattle.lower_model.proofs.Regions.{upd_same, upd_other}
 use Rattle.lower_model.proofs.Locals.{Locals, Number as NumberAt, with_at, laid}
 use Rattle.lower_model.proofs.Steps.{empty, get_copied, set_ok}
-use Rattle.lower_model.proofs.Relation.{Same, same_self, same_then, same_number, Fit, fit_loose, fit_less, fit_number, Away}
-use Rattle.lower_model.proofs.Answers.{machine, beside_state, left_beside, Put, Reached}
+use Rattle.lower_model.proofs.Relation.{Same, same_self, same_then, same_number, Fit, fit_less, fit_number, Away}
+use Rattle.lower_model.proofs.Answers.{machine, beside_state, away_plain, Put, Reached}
 use Rattle.lower_model.proofs.Products.{word, is_out, out_word, is_far, product_near, sum_word, difference_word, triangle, product, told, quotient_bound, is_signed}
 use Rattle.lower_model.proofs.Choosing.{zero_word}
 use Rattle.lower_model.proofs.Converting.{blocked}
@@ -141,9 +140,6 @@ module _ (p : Program) (deepest : Observer) (ks : List Kind) (F : List Frame) (b
     holds = (e, upd_same l.number t (Bits (I64 (number_word z))));
   }
 
-  left_with : (q u w d : ℕ) (K : List Label) (l : Locals) (σ : State) (f : Fault) → Fit p deepest ks F q u w l σ → Away p deepest ks F b d K (Faulted f) σ (br d ks K (laid b l) F (left_beside p deepest ks F (Faulted f) σ))
-  left_with q u w d K l σ f ft = record { next = l; comes = refl; loose = fit_loose p deepest ks F q u w l σ ft; answer = ft.answer; after = tt }
-
   -- both come onto the stack, and what an operator gives of them
   computed_ok : {K : List Label} {k : Instructions} → (op : IBinOp) (x y : Number) (m t u w : ℕ) (l : Locals) (σ : State) → suc t < b.temporaries → Pair x y t u w l σ → binary_at w64 op (number_word x) (number_word y) ≡ Ok m →
       Goes (machine p deepest ks F) 3 (at ks [] K (laid b l) F (two_numbers (number_local b t) (number_local b (suc t)) op k) (beside_state p deepest ks F σ)) (at ks (Bits (I64 m) ∷ []) K (laid b l) F k (beside_state p deepest ks F σ))
@@ -175,7 +171,7 @@ module _ (p : Program) (deepest : Observer) (ks : List Kind) (F : List Frame) (b
       by false i =
           subst (λ r. Reached p deepest ks F b M 4 σ.turns (c out) (Put p deepest ks F b t u w a_number k K l0) (Away p deepest ks F b d K) (settled r σ)) (sym (checked_out z i))
           (subst (λ o. Reached p deepest ks F b M 4 σ.turns (c o) (Put p deepest ks F b t u w a_number k K l0) (Away p deepest ks F b d K) (settled (Err Range) σ)) (sym (e ∙ ap not i))
-          (faulted (machine p deepest ks F) M 4 3 _ _ Range σ (Put p deepest ks F b t u w a_number k K l0) (Away p deepest ks F b d K) (fails_ok p deepest ks F b M n Range d σ) (omega arith) (left_with q u w d K l σ Range ft)))
+          (faulted (machine p deepest ks F) M 4 3 _ _ Range σ (Put p deepest ks F b t u w a_number k K l0) (Away p deepest ks F b d K) (fails_ok p deepest ks F b M n Range d σ) (omega arith) (away_plain p deepest ks F b M q u w d K l σ Range ft)))
 
   -- a sum or a difference
   ranged_ok : (op : IBinOp) (x y : Number) (z : ℤ) (t u w d : ℕ) (k : Instructions) (K : List Label) (l0 l : Locals) (σ : State) → FitsSigned w64 z → binary_at w64 op (number_word x) (number_word y) ≡ Ok (word z) → suc t < b.temporaries → Same [] t w l0 l → Pair x y t u w l σ →
@@ -333,7 +329,7 @@ module _ (p : Program) (deepest : Observer) (ks : List Kind) (F : List Frame) (b
       (by (is_zero y.number) refl)
     where
       by : (z : Bool) → is_zero y.number ≡ z → Reached p deepest ks F b M (3 + j) σ.turns (at ks (Bits (flag z) ∷ []) K (laid b l) F (fail_if DivisionByZero d k) (beside_state p deepest ks F σ)) P (Away p deepest ks F b d K) (settled (outcome_of (if z then Err DivisionByZero else o)) σ)
-      by true i = faulted (machine p deepest ks F) M (3 + j) 3 _ _ DivisionByZero σ P (Away p deepest ks F b d K) (fails_ok p deepest ks F b M n DivisionByZero d σ) (omega arith) (left_with q u w d K l σ DivisionByZero ft)
+      by true i = faulted (machine p deepest ks F) M (3 + j) 3 _ _ DivisionByZero σ P (Away p deepest ks F b d K) (fails_ok p deepest ks F b M n DivisionByZero d σ) (omega arith) (away_plain p deepest ks F b M q u w d K l σ DivisionByZero ft)
       by false i = first (machine p deepest ks F) M 2 j (3 + j) σ.turns _ _ P (Away p deepest ks F b d K) (settled (outcome_of o) σ) (passes_ok p deepest ks F b M n DivisionByZero d σ) (omega arith) (go i)
 
   -- what is in range needs no test
@@ -363,7 +359,7 @@ module _ (p : Program) (deepest : Observer) (ks : List Kind) (F : List Frame) (b
       by : (z : Bool) → Reached p deepest ks F b M 7 σ.turns (at ks (Bits (flag (not z)) ∷ []) K (laid b l) F (fail_if Inexact d (divided bin.DivS (number_local b t) (number_local b (suc t)) k)) (beside_state p deepest ks F σ)) (Put p deepest ks F b t u w a_number k K l0) (Away p deepest ks F b d K) (settled (outcome_of (if z then Ok (int_div x.number y.number) else Err Inexact)) σ)
       by true = first (machine p deepest ks F) M 2 4 7 σ.turns _ _ (Put p deepest ks F b t u w a_number k K l0) (Away p deepest ks F b d K) (settled (outcome_of (Ok (int_div x.number y.number))) σ) (passes_ok p deepest ks F b M n Inexact d σ) (omega arith)
           (whole_ok bin.DivS x y (int_div x.number y.number) t u w d k K l0 l σ (quotient_small x y nz) (quotient_word x y nz) lt sm a)
-      by false = faulted (machine p deepest ks F) M 7 3 _ _ Inexact σ (Put p deepest ks F b t u w a_number k K l0) (Away p deepest ks F b d K) (fails_ok p deepest ks F b M n Inexact d σ) (omega arith) (left_with (suc t) u w d K l σ Inexact a.fit)
+      by false = faulted (machine p deepest ks F) M 7 3 _ _ Inexact σ (Put p deepest ks F b t u w a_number k K l0) (Away p deepest ks F b d K) (fails_ok p deepest ks F b M n Inexact d σ) (omega arith) (away_plain p deepest ks F b M (suc t) u w d K l σ Inexact a.fit)
 
   pub sum_fits : (x y : Number) → FitsSigned w64 (x.number +ℤ y.number)
   sum_fits x y = fits_signed_from_abs w64 (x.number +ℤ y.number) (let s = added_abs x.number y.number in let i = small x in let j = small y in omega (arith, s, i, j))

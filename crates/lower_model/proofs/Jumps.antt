@@ -78,14 +78,14 @@ module _ (p : Program) (deepest : Observer) (ks : List Kind) (F : List Frame) (b
   next_step r lo u d bk ct k K l σ so rm it ar wk s =
       let Q = Away p deepest ks F b d K in
       begun_step p deepest ks F b M n _ 3 4 u K l σ (StepDone p deepest ks F b M n lo u bk ct k K l) Q (plain_meant p deepest ks F b M n Next) (omega arith) s
-      (λ τ s1. left_in p deepest ks F b M n 3 2 τ.turns _ _ (Q Nexted τ) (leaves_by way_next d τ) (omega arith) (record { next = l; comes = refl; loose = fit_loose p deepest ks F 0 u 0 l τ s1.fit; answer = s1.fit.answer; after = (s1.fit.sound, fit_holds_none p deepest ks F u l τ s1.fit) }))
+      (λ τ s1. left_in p deepest ks F b M n 3 2 τ.turns _ _ (Q Nexted τ) (leaves_by way_next d τ) (omega arith) (record { next = l; store = _; left = refl; comes = refl; loose = fit_loose p deepest ks F 0 u 0 l τ s1.fit; answer = s1.fit.answer; after = (s1.fit.sound, fit_holds_none p deepest ks F u l τ s1.fit) }))
 
   pub exit_step : StepOk p deepest ks F b M n Exit
   unfolding step_emitted steps_emitted step_noted steps_noted stepped step_sorted steps_sorted
   exit_step r lo u d bk ct k K l σ so rm it ar wk s =
       let Q = Away p deepest ks F b d K in
       begun_step p deepest ks F b M n _ 3 4 u K l σ (StepDone p deepest ks F b M n lo u bk ct k K l) Q (plain_meant p deepest ks F b M n Exit) (omega arith) s
-      (λ τ s1. left_in p deepest ks F b M n 3 2 τ.turns _ _ (Q Exited τ) (leaves_by way_exit d τ) (omega arith) (record { next = l; comes = refl; loose = fit_loose p deepest ks F 0 u 0 l τ s1.fit; answer = s1.fit.answer; after = (s1.fit.sound, fit_holds_none p deepest ks F u l τ s1.fit) }))
+      (λ τ s1. left_in p deepest ks F b M n 3 2 τ.turns _ _ (Q Exited τ) (leaves_by way_exit d τ) (omega arith) (record { next = l; store = _; left = refl; comes = refl; loose = fit_loose p deepest ks F 0 u 0 l τ s1.fit; answer = s1.fit.answer; after = (s1.fit.sound, fit_holds_none p deepest ks F u l τ s1.fit) }))
 
   -- the status is told too
   exits_with : {k : Instructions} {K : List Label} → (d : ℕ) (l : Locals) (m : Number) (σ : State) → zero < b.temporaries → l.number zero ≡ Bits (I64 (number_word m)) →
@@ -119,6 +119,8 @@ module _ (p : Program) (deepest : Observer) (ks : List Kind) (F : List Frame) (b
       left_in p deepest ks F b M n 4 4 τ.turns c2 _ (Away p deepest ks F b d K Exited (with_status m τ)) (goes_from a.comes (exits_with d a.next m τ (omega (arith, rm, r1)) a.holds.1)) (omega arith)
       (record {
         next = a.next;
+        store = _;
+        left = refl;
         comes = refl;
         loose = fit_loose p deepest ks F 1 u zero a.next τ a.fit;
         answer = a.fit.answer;

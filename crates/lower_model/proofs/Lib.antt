@@ -27,6 +27,7 @@ pub mod Choosing
 pub mod Making
 pub mod Numbers
 pub mod Texts
+pub mod Worn
 pub mod Lists
 pub mod InputLaws
 pub mod Setting
@@ -44,6 +45,9 @@ pub mod Tallies
 pub mod Tallying
 pub mod QuickParts
 pub mod Remainders
+pub mod Still
+pub mod Chains
+pub mod Appending
 pub mod Evaluating
 pub mod QuickSteps
 pub mod Adding
@@ -89,4 +93,3 @@ pub mod Wholes
 pub mod Following
 pub mod Observer
 pub mod Silent
-pub mod Chains

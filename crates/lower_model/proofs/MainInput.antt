@@ -217,8 +217,8 @@ module _ (p : Program) (deepest : Observer) (b : Bases) (M n : ℕ) (none : zero
   left_for_good : {A : Type 0} → (w m : ℕ) (c : Conf) (K : List Label) (P : A → State → Conf → Type 0) (r : Outcome A) → OnlyFaults r → Arrives mach M w m c P (Away p deepest [] [] b zero K) r → Arrives mach M w m c P (Left p deepest b M n zero K) r
   left_for_good w m c K P (Gives a σ) h q = q
   left_for_good w m c K P (Stops OutOfTurns σ) h q = q
-  left_for_good w m c K P (Stops (Faulted f) σ) h q = record { conf = q.conf; steps = q.steps; goes = q.goes; cost = q.cost; holds = let z = q.holds in record { next = z.next; way = 0; comes = z.comes; loose = z.loose; answer = z.answer; good = tt } }
-  left_for_good w m c K P (Stops TooDeep σ) h q = record { conf = q.conf; steps = q.steps; goes = q.goes; cost = q.cost; holds = let z = q.holds in record { next = z.next; way = 0; comes = z.comes; loose = z.loose; answer = z.answer; good = tt } }
+  left_for_good w m c K P (Stops (Faulted f) σ) h q = record { conf = q.conf; steps = q.steps; goes = q.goes; cost = q.cost; holds = let z = q.holds in record { next = z.next; way = 0; store = z.store; left = z.left; comes = z.comes; loose = z.loose; answer = z.answer; good = tt } }
+  left_for_good w m c K P (Stops TooDeep σ) h q = record { conf = q.conf; steps = q.steps; goes = q.goes; cost = q.cost; holds = let z = q.holds in record { next = z.next; way = 0; store = z.store; left = z.left; comes = z.comes; loose = z.loose; answer = z.answer; good = tt } }
   left_for_good w m c K P (Stops Nexted σ) h q = absurd h
   left_for_good w m c K P (Stops Exited σ) h q = absurd h
   left_for_good w m c K P (Stops (Returned v) σ) h q = absurd h

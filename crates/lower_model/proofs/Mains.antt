@@ -1,5 +1,5 @@
 -- `main` from where its names are made to its end, if reading and assignments do what they mean.
-use Rattle.std.proofs.Common.{◌≡◌, ℕ, zero, suc, ◌+◌, ◌≤◌, Bool, true, false, List, [], ◌∷◌, Some, None, refl, ap, arith}
+use Rattle.std.proofs.Common.{◌≡◌, ℕ, zero, suc, ◌+◌, ◌≤◌, Bool, true, false, List, [], ◌∷◌, None, refl, ap, ◌∙◌, arith}
 use Rattle.std.specs.Prelude.{if◌then◌else◌}
 use Rattle.sem_primitives.specs.declared.table.Primitive.TheVariants as row
 use Rattle.wasm_types.specs.Syntax.{Instructions, Done}
@@ -10,7 +10,7 @@ use Rattle.sem_scripts.specs.ScriptState.{State, Stop, Faulted, OutOfTurns, TooD
 use Rattle.mid_program.specs.Sorted.{calls_of, context_of, steps_sorted}
 use Rattle.lower_model.specs.Emission.{asked}
 use Rattle.lower_model.specs.Functions.{layout_of}
-use Rattle.lower_model.specs.Machine.{Conf, Label, at, label, ending_at}
+use Rattle.lower_model.specs.Machine.{Conf, Deep, Label, at, br, label, ending_at}
 use Rattle.lower_model.specs.Noted.{noted_called, noted_done, begin_rest, out_of_part}
 use Rattle.lower_model.specs.Places.{Bases, steps_room, steps_iterators, steps_arrays}
 use Rattle.lower_model.specs.Small.{emit as instruction, ask_row}
@@ -27,7 +27,7 @@ use Rattle.lower_model.proofs.StatementForms.{steps_work, Starts, StepsOk}
 use Rattle.lower_model.proofs.Stepping.{steps_ok}
 use Rattle.lower_model.proofs.Returning.{Plainly, then_plainly, nothing_plainly, noted_plainly, records_plainly, called_plainly}
 use Rattle.lower_model.proofs.Parts.{On, Left, part_work, part_ok, steps_done, record_work}
-use Rattle.lower_model.proofs.Endings.{main_exit, main_exit_work, main_ends, shows_ended, EndsWell}
+use Rattle.lower_model.proofs.Endings.{main_exit, main_exit_work, main_ends, kept_ends, shows_ended, EndsWell}
 use Rattle.lower_model.proofs.Records.{Reading, reading_ok}
 
 module _ (p : Program) (deepest : Observer) (b : Bases) (M n : ℕ) where
@@ -37,9 +37,9 @@ module _ (p : Program) (deepest : Observer) (b : Bases) (M n : ℕ) where
   -- `main` is left for good
   left_ends : (why : Stop) (σ : State) (c : Conf) → zero ≡ b.parameters → Left p deepest b M n zero exit_labels why σ c → Onward (machine p deepest [] []) M (main_exit_work b) (EndsWell (Stops why σ)) c
   left_ends (Faulted f) σ c none h =
-      let e = main_ends p deepest b h.way (Some f) h.next σ none h.loose h.answer in
-      record { conf = _; steps = e.steps; few = e.few; goes = goes_from h.comes e.goes; holds = refl }
-  left_ends TooDeep σ c none h = record { conf = c; steps = 0; few = omega arith; goes = stays; holds = ap ending_at h.comes }
+      let e = kept_ends p deepest b h.way f h.next σ h.left.globals none h.loose h.answer h.left.worn in
+      record { conf = _; steps = e.steps; few = e.few; goes = goes_from (h.comes ∙ ap (br zero [] exit_labels (laid b h.next) []) h.left.is) e.goes; holds = refl }
+  left_ends TooDeep σ c none h = record { conf = c; steps = 0; few = omega arith; goes = stays; holds = ap ending_at (h.comes ∙ ap Deep h.left) }
   left_ends OutOfTurns σ c none h = absurd h.good
   left_ends Nexted σ c none h = absurd h.good
   left_ends Exited σ c none h = absurd h.good
@@ -51,7 +51,7 @@ module _ (p : Program) (deepest : Observer) (b : Bases) (M n : ℕ) where
   ends_well w m c (Gives u σ) none h =
       reaches_on (machine p deepest [] []) M (main_exit_work b + 1) w (w + (main_exit_work b + 1)) m σ.turns c _ (EndsWell (Gives u σ)) (omega arith)
       (λ c1 q.
-      let e = main_ends p deepest b 0 None q.next σ none (fit_loose p deepest [] [] 0 0 0 q.next σ q.starts.fit) q.starts.fit.answer in
+      let e = main_ends p deepest b 0 q.next σ none (fit_loose p deepest [] [] 0 0 0 q.next σ q.starts.fit) q.starts.fit.answer in
       record { conf = _; steps = 1 + e.steps; few = (let x = e.few in omega (arith, x)); goes = goes_from q.comes (then_goes closes e.goes); holds = shows_ended p deepest b 0 σ }) h
   ends_well w m c (Stops (Faulted f) σ) none h = reaches_on (machine p deepest [] []) M (main_exit_work b) w (w + (main_exit_work b + 1)) m σ.turns c _ (EndsWell (Stops (Faulted f) σ)) (omega arith) (λ c1 q. left_ends (Faulted f) σ c1 none q) h
   ends_well w m c (Stops TooDeep σ) none h = reaches_on (machine p deepest [] []) M (main_exit_work b) w (w + (main_exit_work b + 1)) m σ.turns c _ (EndsWell (Stops TooDeep σ)) (omega arith) (λ c1 q. left_ends TooDeep σ c1 none q) h

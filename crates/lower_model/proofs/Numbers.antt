@@ -35,9 +35,9 @@ use Rattle.lower_model.proofs.Observer.{Observer}
 use Rattle.lower_model.proofs.Runs.{Goes, then_goes, goes_to, goes_from, by_steps, stays, there, faulted, first}
 use Rattle.lower_model.proofs.Locals.{Locals, Number as NumberAt, laid}
 use Rattle.lower_model.proofs.Steps.{get_copied}
-use Rattle.lower_model.proofs.Relation.{HoldsAt, Fit, fit_loose, Away}
+use Rattle.lower_model.proofs.Relation.{HoldsAt, Fit, Away}
 use Rattle.lower_model.proofs.Pieces.{chooses}
-use Rattle.lower_model.proofs.Answers.{machine, beside_state, left_beside, row_called, Reached}
+use Rattle.lower_model.proofs.Answers.{machine, beside_state, left_beside, row_called, away_plain, Reached}
 use Rattle.lower_model.proofs.Conversions.{same_state}
 use Rattle.lower_model.proofs.HostCalls.{row_then, extra_enough}
 use Rattle.lower_model.proofs.Simulation.{work_of, past, context, Done, ExprOk, CodesOk, RowAt}
@@ -114,4 +114,4 @@ module _ (p : Program) (deepest : Observer) (ks : List Kind) (F : List Frame) (b
           Reached p deepest ks F b M 3 τ.turns (at ks (Bits (flag (not y)) ∷ []) K (laid b l1) F (fail_if NoField d k) (beside_state p deepest ks F τ)) P (Away p deepest ks F b d K) (settled (if y then Ok x else Err NoField) τ)
       checked x d k K l1 τ P true t u w ft q = there (machine p deepest ks F) M 3 2 _ _ x τ P (Away p deepest ks F b d K) (passes_ok NoField d τ) (omega arith) q
       checked x d k K l1 τ P false t u w ft q = faulted (machine p deepest ks F) M 3 3 _ _ NoField τ P (Away p deepest ks F b d K) (fails_ok NoField d τ) (omega arith)
-          (record { next = l1; comes = refl; loose = fit_loose p deepest ks F t u w l1 τ ft; answer = ft.answer; after = tt })
+          (away_plain p deepest ks F b M t u w d K l1 τ NoField ft)

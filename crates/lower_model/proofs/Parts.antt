@@ -1,5 +1,5 @@
 -- The parts of `main`: its steps, what is done for a record, which `next` ends, and a part, which `exit` ends. `main` has no parameters, and nobody waits for it.
-use Rattle.std.proofs.Common.{◌≡◌, inl, ℕ, zero, suc, ◌+◌, ◌*◌, ◌<◌, ◌≤◌, true, false, List, [], ◌∷◌, ◌++◌, length, Some, None, Option, Result, Err, refl, ap, ap₂, ◌∙◌, arith}
+use Rattle.std.proofs.Common.{◌≡◌, inl, ℕ, zero, suc, ◌+◌, ◌*◌, ◌<◌, ◌≤◌, true, false, List, [], ◌∷◌, ◌++◌, length, Some, None, Option, Result, Err, refl, sym, ap, ap₂, ◌∙◌, arith}
 use Rattle.awk_values.specs.declared.fault.Fault.{Fault}
 use Rattle.awk_values.specs.declared.fault.Fault.TheVariants.{NextOutside}
 use Rattle.awk_values.specs.Faults.{fault_number}
@@ -17,7 +17,8 @@ use Rattle.mid_program.specs.Sorted.{calls_of, context_of, kinds_of, steps_sorte
 use Rattle.sem_scripts.specs.Statements.{Flow, Normal, Broke, Continued}
 use Rattle.lower_model.specs.Cells.{Cell, Bits, is_owned}
 use Rattle.lower_model.specs.Functions.{layout_of}
-use Rattle.lower_model.specs.Machine.{Conf, Deep, Label, at, br, label, loops_walked}
+use Rattle.lower_model.specs.ImportCalls.{Host}
+use Rattle.lower_model.specs.Machine.{Conf, Deep, Label, Store, at, br, label, loops_walked}
 use Rattle.lower_model.specs.Noted.{noted_done, out_of_part}
 use Rattle.lower_model.specs.Places.{Bases, way_global, steps_room, steps_iterators, steps_arrays}
 use Rattle.lower_model.specs.Small.{emit, ask_row, when}
@@ -26,12 +27,12 @@ use Rattle.host_imports.specs.declared.import.Import.TheVariants.{OfPrimitive}
 use Rattle.lower_model.proofs.Observer.{Observer}
 use Rattle.lower_model.proofs.Runs.{Goes, goes_to, goes_from, then_goes, by_steps, stays, first, then_on, then_step, there, within, Arrives, reaches_on}
 use Rattle.lower_model.proofs.Regions.{cells, cells_same, pairs_same}
-use Rattle.lower_model.proofs.Globals.{Way}
-use Rattle.lower_model.proofs.GlobalSteps.{global_copied, global_set_ok}
+use Rattle.lower_model.proofs.Globals.{Globals, Way, placed}
+use Rattle.lower_model.proofs.GlobalSteps.{storing, global_copied, global_set_ok}
 use Rattle.lower_model.proofs.Locals.{Locals, laid}
 use Rattle.lower_model.proofs.Steps.{empty, unanswered}
 use Rattle.lower_model.proofs.Calls.{called}
-use Rattle.lower_model.proofs.State.{cells_of, store_with}
+use Rattle.lower_model.proofs.State.{cells_of, host_of, store_with, KeptBeside, faulted_left}
 use Rattle.lower_model.proofs.Relation.{Loose, Sound, HoldsNone, Away, left_to}
 use Rattle.lower_model.proofs.Pieces.{closes}
 use Rattle.lower_model.proofs.Conversions.{same_state}
@@ -49,10 +50,6 @@ laid_cleaned b l eh ei ey =
     ap (λ r. cells l.param b.parameters ++ (l.answer ∷ r))
     (ap₂ (λ a r. a ++ r) (pairs_same l.hand l.number (cleaned l).hand l.number b.temporaries eh (λ x lt. refl))
     (ap₂ (λ a r. a ++ r) (cells_same l.iterator (cleaned l).iterator b.iterators ei) (ap (λ a. a ++ []) (cells_same l.array (cleaned l).array b.arrays ey))))
-
-abbrev pub fault_kept : Stop → Option Fault
-fault_kept (Faulted f) = Some f
-fault_kept _ = None
 
 -- a part is left for good by a fault, or a call that is too deep
 abbrev pub ForGood : Stop → Type 0
@@ -75,11 +72,17 @@ module _ (p : Program) (deepest : Observer) (b : Bases) (M n : ℕ) where
     pub comes : c ≡ at [] [] K (laid b next) [] k (beside_state p deepest [] [] σ)
     pub starts : Starts p deepest [] [] b M n 0 K next σ
 
+  abbrev pub LeftAt : (way : ℕ) → Stop → State → Store → Type 0
+  LeftAt way (Faulted f) σ s = KeptBeside p.ranges (kinds_of p.globals) (cells_of (kinds_of p.globals) way σ) (host_of σ (Some f)) s
+  LeftAt way why σ s = s ≡ beside_state p deepest [] [] σ
+
   -- `main` is left, whatever the way was
   pub record Left (d : ℕ) (K : List Label) (why : Stop) (σ : State) (c : Conf) : Type 0 where
     pub next : Locals
     pub way : ℕ
-    pub comes : c ≡ left_to why (br d [] K (laid b next) [] (store_with p.ranges (kinds_of p.globals) way (fault_kept why) σ)) (Deep (beside_state p deepest [] [] σ))
+    pub store : Store
+    pub left : LeftAt way why σ store
+    pub comes : c ≡ left_to why (br d [] K (laid b next) [] store) (Deep store)
     pub loose : Loose p deepest [] [] next
     pub answer : next.answer ≡ unanswered
     pub good : ForGood why
@@ -91,6 +94,10 @@ module _ (p : Program) (deepest : Observer) (b : Bases) (M n : ℕ) where
     pub few : steps ≤ going_work b
     pub goes : Goes (machine p deepest [] []) steps (at [] [] K (laid b l) [] (goes_on (layout_of p b) k) (store_with p.ranges (kinds_of p.globals) way None σ)) (at [] [] K (laid b next) [] k (beside_state p deepest [] [] σ))
     pub starts : Starts p deepest [] [] b M n 0 K next σ
+
+  -- the store that is left, where `main` goes on
+  beside_left : {s G : Store} → (k : Instructions) (K : List Label) (l : Locals) → s ≡ G → at [] [] K (laid b l) [] k s ≡ at [] [] K (laid b l) [] k G
+  beside_left k K l e = ap (at [] [] K (laid b l) [] k) e
 
   going : (way : ℕ) (K : List Label) (k : Instructions) (l : Locals) (σ : State) → zero ≡ b.parameters → loops_walked K ≡ 0 → Loose p deepest [] [] l → l.answer ≡ unanswered → Sound p deepest [] [] σ × HoldsNone p deepest [] [] l → length σ.own.locals ≡ 0 → σ.turns ≤ n → Going way K k l σ
   going way K k l σ none walks lo an left size le =
@@ -123,6 +130,16 @@ module _ (p : Program) (deepest : Observer) (b : Bases) (M n : ℕ) where
           parameters = none;
         };
       }
+
+  -- a store in which a fault is kept
+  abbrev store_of : {was : Globals} {o : Host} {s : Store} → KeptBeside p.ranges (kinds_of p.globals) was o s → Store
+  store_of {o = o} q = storing (placed p.ranges (length (kinds_of p.globals)) q.globals) o
+
+  -- the way is looked at there
+  kept_told : {was : Globals} {o : Host} {s : Store} {w : ℕ} {K : List Label} {L : List Cell} {k : Instructions} →
+      (q : KeptBeside p.ranges (kinds_of p.globals) was o s) → q.globals.way ≡ Bits (word.I32 w) →
+      Goes (machine p deepest [] []) 1 (at [] [] K L [] (emit (GlobalGet way_global) k) (store_of q)) (at [] (Bits (word.I32 w) ∷ []) K L [] k (store_of q))
+  kept_told {w = w} q e = global_copied p.ranges (length (kinds_of p.globals)) q.globals Way (Bits (word.I32 w)) tt e refl
 
   -- steps of `main`
   abbrev pub steps_only : Steps → (d : ℕ) → Instructions → Execution (Unit {0})
@@ -165,15 +182,23 @@ module _ (p : Program) (deepest : Observer) (b : Bases) (M n : ℕ) where
   nexted w m d c k K (Stops OutOfTurns τ) none walks le nr size h = within (machine p deepest [] []) M {A = Unit {0}} w (w + record_work) m c (λ u. On k K) (Away p deepest [] [] b d K) (Stops OutOfTurns τ) (omega arith) h
   nexted w m d c k K (Stops TooDeep τ) none walks le nr size h =
       reaches_on (machine p deepest [] []) M 0 w (w + record_work) m τ.turns c _ (Away p deepest [] [] b d K TooDeep τ) (omega arith)
-      (λ c1 q. record { conf = c1; steps = 0; few = omega arith; goes = stays; holds = record { next = q.next; comes = q.comes; loose = q.loose; answer = q.answer; after = tt } }) h
+      (λ c1 q. record { conf = c1; steps = 0; few = omega arith; goes = stays; holds = record { next = q.next; store = q.store; left = q.left; comes = q.comes; loose = q.loose; answer = q.answer; after = tt } }) h
   nexted w m d c k K (Stops (Faulted f) τ) none walks le nr size h =
       reaches_on (machine p deepest [] []) M 3 w (w + record_work) m τ.turns c _ (Away p deepest [] [] b d K (Faulted f) τ) (omega arith)
       (λ c1 q. record {
-        conf = br d [] K (laid b q.next) [] (left_beside p deepest [] [] (Faulted f) τ);
+        conf = br d [] K (laid b q.next) [] (store_of q.left);
         steps = 3;
         few = omega arith;
-        goes = goes_from q.comes (then_goes (global_copied p.ranges (length (kinds_of p.globals)) (cells_of (kinds_of p.globals) 0 τ) Way (Bits (word.I32 0)) tt refl refl) (by_steps 2 refl));
-        holds = record { next = q.next; comes = refl; loose = q.loose; answer = q.answer; after = tt };
+        goes = goes_from (q.comes ∙ beside_left (next_code d) (label [] None k ∷ K) q.next q.left.is) (then_goes (kept_told q.left q.left.worn.way) (by_steps 2 refl));
+        holds = record {
+          next = q.next;
+          store = q.store;
+          left = q.left;
+          comes = ap (br d [] K (laid b q.next) []) (sym q.left.is);
+          loose = q.loose;
+          answer = q.answer;
+          after = tt;
+        };
       }) h
   nexted w m d c k K (Stops Exited τ) none walks le nr size h =
       reaches_on (machine p deepest [] []) M 3 w (w + record_work) m τ.turns c _ (Away p deepest [] [] b d K Exited τ) (omega arith)
@@ -181,8 +206,16 @@ module _ (p : Program) (deepest : Observer) (b : Bases) (M n : ℕ) where
         conf = br d [] K (laid b q.next) [] (left_beside p deepest [] [] Exited τ);
         steps = 3;
         few = omega arith;
-        goes = goes_from q.comes (then_goes (global_copied p.ranges (length (kinds_of p.globals)) (cells_of (kinds_of p.globals) 2 τ) Way (Bits (word.I32 2)) tt refl refl) (by_steps 2 refl));
-        holds = record { next = q.next; comes = refl; loose = q.loose; answer = q.answer; after = q.after };
+        goes = goes_from (q.comes ∙ beside_left (next_code d) (label [] None k ∷ K) q.next q.left) (then_goes (global_copied p.ranges (length (kinds_of p.globals)) (cells_of (kinds_of p.globals) 2 τ) Way (Bits (word.I32 2)) tt refl refl) (by_steps 2 refl));
+        holds = record {
+          next = q.next;
+          store = left_beside p deepest [] [] Exited τ;
+          left = refl;
+          comes = refl;
+          loose = q.loose;
+          answer = q.answer;
+          after = q.after;
+        };
       }) h
   nexted w m d c k K (Stops Nexted τ) none walks le nr size h =
       let down = h.cost.down in
@@ -193,7 +226,7 @@ module _ (p : Program) (deepest : Observer) (b : Bases) (M n : ℕ) where
         conf = at [] [] K (laid b g.next) [] k (beside_state p deepest [] [] τ);
         steps = 3 + (g.steps + 1);
         few = let x = g.few in omega (arith, x);
-        goes = goes_from q.comes (then_goes (then_goes (global_copied p.ranges (length (kinds_of p.globals)) (cells_of (kinds_of p.globals) 1 τ) Way (Bits (word.I32 1)) tt refl refl) (by_steps 2 refl)) (then_goes g.goes closes));
+        goes = goes_from (q.comes ∙ beside_left (next_code d) (label [] None k ∷ K) q.next q.left) (then_goes (then_goes (global_copied p.ranges (length (kinds_of p.globals)) (cells_of (kinds_of p.globals) 1 τ) Way (Bits (word.I32 1)) tt refl refl) (by_steps 2 refl)) (then_goes g.goes closes));
         holds = record { next = g.next; comes = refl; starts = record { fit = g.starts.fit; walked = g.starts.walked; walks = g.starts.walks; loops = walks; turns = g.starts.turns; parameters = g.starts.parameters } };
       }) h
 
@@ -242,15 +275,24 @@ module _ (p : Program) (deepest : Observer) (b : Bases) (M n : ℕ) where
   parted w m d c k K (Stops OutOfTurns τ) none walks le nr size h = within (machine p deepest [] []) M {A = Unit {0}} w (w + part_work) m c (λ u. On k K) (Left d K) (Stops OutOfTurns τ) (omega arith) h
   parted w m d c k K (Stops TooDeep τ) none walks le nr size h =
       reaches_on (machine p deepest [] []) M 0 w (w + part_work) m τ.turns c _ (Left d K TooDeep τ) (omega arith)
-      (λ c1 q. record { conf = c1; steps = 0; few = omega arith; goes = stays; holds = record { next = q.next; way = 0; comes = q.comes; loose = q.loose; answer = q.answer; good = tt } }) h
+      (λ c1 q. record { conf = c1; steps = 0; few = omega arith; goes = stays; holds = record { next = q.next; way = 0; store = q.store; left = q.left; comes = q.comes; loose = q.loose; answer = q.answer; good = tt } }) h
   parted w m d c k K (Stops (Faulted f) τ) none walks le nr size h =
       reaches_on (machine p deepest [] []) M 3 w (w + part_work) m τ.turns c _ (Left d K (Faulted f) τ) (omega arith)
       (λ c1 q. record {
-        conf = br d [] K (laid b q.next) [] (left_beside p deepest [] [] (Faulted f) τ);
+        conf = br d [] K (laid b q.next) [] (store_of q.left);
         steps = 3;
         few = omega arith;
-        goes = goes_from q.comes (then_goes (way_told 0 (Some f) τ) (by_steps 2 refl));
-        holds = record { next = q.next; way = 0; comes = refl; loose = q.loose; answer = q.answer; good = tt };
+        goes = goes_from (q.comes ∙ beside_left (part_code d) (label [] None k ∷ K) q.next q.left.is) (then_goes (kept_told q.left q.left.worn.way) (by_steps 2 refl));
+        holds = record {
+          next = q.next;
+          way = 0;
+          store = q.store;
+          left = q.left;
+          comes = ap (br d [] K (laid b q.next) []) (sym q.left.is);
+          loose = q.loose;
+          answer = q.answer;
+          good = tt;
+        };
       }) h
   parted w m d c k K (Stops Nexted τ) none walks le nr size h =
       reaches_on (machine p deepest [] []) M 9 w (w + part_work) m τ.turns c _ (Left d K (Faulted NextOutside) τ) (omega arith)
@@ -258,8 +300,17 @@ module _ (p : Program) (deepest : Observer) (b : Bases) (M n : ℕ) where
         conf = br d [] K (laid b q.next) [] (store_with p.ranges (kinds_of p.globals) 1 (Some NextOutside) τ);
         steps = 8;
         few = omega arith;
-        goes = goes_from q.comes (then_goes (way_told 1 None τ) (then_goes (by_steps 2 refl) (then_goes (way_told 1 None τ) (then_goes (by_steps 2 refl) (then_goes (outside_kept τ) (by_steps 1 refl))))));
-        holds = record { next = q.next; way = 1; comes = refl; loose = q.loose; answer = q.answer; good = tt };
+        goes = goes_from (q.comes ∙ beside_left (part_code d) (label [] None k ∷ K) q.next q.left) (then_goes (way_told 1 None τ) (then_goes (by_steps 2 refl) (then_goes (way_told 1 None τ) (then_goes (by_steps 2 refl) (then_goes (outside_kept τ) (by_steps 1 refl))))));
+        holds = record {
+          next = q.next;
+          way = 1;
+          store = store_with p.ranges (kinds_of p.globals) 1 (Some NextOutside) τ;
+          left = faulted_left p.ranges (kinds_of p.globals) 1 NextOutside τ;
+          comes = refl;
+          loose = q.loose;
+          answer = q.answer;
+          good = tt;
+        };
       }) h
   parted w m d c k K (Stops Exited τ) none walks le nr size h =
       let down = h.cost.down in
@@ -270,7 +321,7 @@ module _ (p : Program) (deepest : Observer) (b : Bases) (M n : ℕ) where
         conf = at [] [] K (laid b g.next) [] k (beside_state p deepest [] [] τ);
         steps = 7 + (g.steps + 1);
         few = let x = g.few in omega (arith, x);
-        goes = goes_from q.comes (then_goes (then_goes (way_told 2 None τ) (then_goes (by_steps 2 refl) (then_goes (way_told 2 None τ) (by_steps 3 refl)))) (then_goes g.goes closes));
+        goes = goes_from (q.comes ∙ beside_left (part_code d) (label [] None k ∷ K) q.next q.left) (then_goes (then_goes (way_told 2 None τ) (then_goes (by_steps 2 refl) (then_goes (way_told 2 None τ) (by_steps 3 refl)))) (then_goes g.goes closes));
         holds = record { next = g.next; comes = refl; starts = record { fit = g.starts.fit; walked = g.starts.walked; walks = g.starts.walks; loops = walks; turns = g.starts.turns; parameters = g.starts.parameters } };
       }) h
 

@@ -1,5 +1,5 @@
 -- Names and sources of quick ways: several names within the same bounds, sources among them, and sums that are in range.
-use Rattle.std.proofs.Common.{◌≡◌, ℕ, zero, suc, ◌+◌, ◌%◌, ◌^◌, ◌≤◌, Bool, true, false, T, nat_eq, nat_le, List, [], ◌∷◌, length, Some, None, Option, Ok, Result, ℤ, ◌+ℤ◌, neg_ℤ, unsigned_abs, w64, refl, sym, ap, ◌∙◌, subst, arith, if◌then◌else◌}
+use Rattle.std.proofs.Common.{◌≡◌, ℕ, zero, suc, ◌+◌, ◌%◌, ◌^◌, ◌≤◌, Bool, true, false, T, nat_le, List, [], ◌∷◌, length, Some, None, Option, Ok, Result, ℤ, ◌+ℤ◌, neg_ℤ, unsigned_abs, w64, refl, sym, ap, ◌∙◌, subst, arith, if◌then◌else◌}
 use Rattle.std.specs.Prelude.{◌&&◌, ◌||◌, not, nat_lt, bit_or}
 use Rattle.std.proofs.lemmas.Nat.{le_or_l, le_or_r}
 use Rattle.std.proofs.lemmas.Bool.{and_parts, le-leb, le-ltb, ltb-false, eqb-true, eq-eqb}

@@ -1,5 +1,5 @@
 -- Quick ways of statements: how names are read and written, several within the same bounds, and what `n = a + e` means.
-use Rattle.std.proofs.Common.{◌≡◌, ℕ, suc, Bool, true, false, List, [], ◌∷◌, length, None, Ok, Result, ℤ, refl, sym, ap, ap₂, ◌∙◌, if◌then◌else◌, arith, ◌^◌}
+use Rattle.std.proofs.Common.{◌≡◌, ℕ, suc, Bool, true, false, List, [], ◌∷◌, length, None, Ok, Result, ℤ, refl, sym, ap, ap₂, ◌∙◌, if◌then◌else◌, arith}
 use Rattle.std.specs.Prelude.{◌&&◌, bit_or}
 use Rattle.std.proofs.lemmas.Bool.{and_parts}
 use Rattle.awk_values.specs.declared.fault.Fault.{Fault}
@@ -14,7 +14,7 @@ use Rattle.wasm_store.specs.declared.word.Word.TheVariants.{I64}
 use Rattle.wasm_store.specs.Words.{flag}
 use Rattle.mid_program.specs.declared.mid.Arithmetic.{Arithmetic}
 use Rattle.mid_program.specs.declared.mid.Operation.TheVariants.{Inline}
-use Rattle.mid_program.specs.Mid.{Kind, Unboxed, Program, Global, Code, Do, Set, End, At, Eval, Form, form_of}
+use Rattle.mid_program.specs.Mid.{Kind, Unboxed, Program, Code, Do, Set, End, At, Eval, Form, form_of}
 use Rattle.mid_program.specs.MidMeaning.{Env, evaluated, all_evaluated, stepped, then_row, store_slot, arithmetic_of}
 use Rattle.sem_scripts.specs.ScriptState.{State, Gives, Outcome, go_on, settled, give, ◌>>◌, global_value, local_value, with_global}
 use Rattle.mid_program.specs.Sorted.{is_slot, takes, sorted, all_sorted, has_kind, kinds_of, fits as fits_sort}

@@ -25,7 +25,7 @@ use Rattle.sem_primitives.proofs.Words.{small}
 use Rattle.wasm_types.specs.Syntax.{Instructions, Done as NoMore}
 use Rattle.wasm_types.specs.declared.types.ValType.TheVariants.{I32}
 use Rattle.wasm_types.specs.declared.types.ValType.TheVariants as wide
-use Rattle.wasm_types.specs.declared.instr.Simple.TheVariants.{GlobalGet, GlobalSet, I32Const, BrIf, Compare as Comparing, Binary, Test}
+use Rattle.wasm_types.specs.declared.instr.Simple.TheVariants.{I32Const, BrIf, Compare as Comparing, Binary, Test}
 use Rattle.wasm_types.specs.declared.instr.IRelOp.TheVariants.{LeS}
 use Rattle.wasm_types.specs.declared.instr.ITestOp.TheVariants.{Eqz}
 use Rattle.wasm_store.specs.declared.word.Word.TheVariants.{I64}
@@ -33,33 +33,28 @@ use Rattle.wasm_store.specs.declared.word.Word.TheVariants as word
 use Rattle.wasm_store.specs.Words.{flag, given_by}
 use Rattle.mid_program.specs.declared.mid.Arithmetic.{Arithmetic}
 use Rattle.mid_program.specs.declared.mid.Operation.TheVariants.{Host, Inline, AsNumber}
-use Rattle.mid_program.specs.Mid.{Kind, Unboxed, Program, Global, Code, Do, Compare, Number, Get, Set, Seq, Let, Bound, Codes, End, At, Fixed, Eval, a_number, Form, form_of, Slot}
+use Rattle.mid_program.specs.Mid.{Kind, Program, Code, Do, Compare, Number, Get, Set, Seq, Let, Bound, Codes, End, At, Fixed, Eval, a_number, Form, form_of, Slot}
 use Rattle.mid_program.specs.MidMeaning.{evaluated, all_evaluated, stepped, or_zero, then_row, store_slot, arithmetic_of}
-use Rattle.sem_scripts.specs.ScriptState.{State, Gives, Outcome, go_on, settled, give, ◌>>◌, global_value, with_global, local_value}
-use Rattle.mid_program.specs.Sorted.{sorted, all_sorted, has_kind, kinds_of, fits as fits_sort, is_tested, is_dropped, is_kept, keeps_well, test_sorted, step_sorted, steps_sorted, is_slot, takes}
+use Rattle.sem_scripts.specs.ScriptState.{State, Gives, Outcome, go_on, settled, give, ◌>>◌, global_value, local_value}
+use Rattle.mid_program.specs.Sorted.{sorted, all_sorted, kinds_of, fits as fits_sort, is_tested, is_dropped, is_kept, keeps_well, test_sorted, step_sorted, steps_sorted, is_slot, takes}
 use Rattle.sem_scripts.specs.Statements.{Flow, Normal}
 use Rattle.lower_model.specs.Cells.{Cell, Bits, Held}
 use Rattle.lower_model.specs.Emission.{tested, source_pushed}
 use Rattle.lower_model.specs.Machine.{Conf, Label, Frame, Store, at, br, label, with_operands, push_result}
 use Rattle.lower_model.specs.Noted.{step_noted, steps_noted}
-use Rattle.lower_model.specs.Places.{Bases, number_global, room, arrays_in, step_room, step_arrays}
+use Rattle.lower_model.specs.Places.{Bases, room, arrays_in, step_room, step_arrays}
 use Rattle.lower_model.specs.Quick.{Within, unsure, name_in, constant_in, first_ones, compared_within, both_within, test_within, Holder, OfName, OfParameter, holder_of, set_after, set_alone, Source, Held as Standing, Constant, source_in, and_source, Sum, sum_names, update_in, is_near, is_sum, sum_op, sum_of, two_sum, set_sum, kept_sum, update_sum, old_source, stored_name, new_sum, let_sum, sum_in, Counted, field_count, counted_of, counted_in, Pair, pair_names, pair_of, pair_in, contrary}
 use Rattle.lower_model.specs.Small.{emit, ask_row, text_beside}
 use Rattle.lower_model.specs.Statements.{counted_left, left_unless_counted, summed, summed_anyway, quickly_dropped, pair_left, left_unless_pair, left_unless, step_emitted, steps_emitted}
 use Rattle.lower_model.proofs.Runs.{Goes, goes_from, goes_to, then_goes, by_steps, stays, first, within, there, then_on, then_step, Onward}
 use Rattle.lower_model.proofs.Locals.{Locals, laid}
-use Rattle.lower_model.proofs.Globals.{Number as NameNumber}
-use Rattle.lower_model.proofs.GlobalSteps.{global_copied}
-use Rattle.lower_model.proofs.Steps.{empty}
-use Rattle.lower_model.proofs.State.{holder_slot, holder_value, stored_in, bare, beside, bare_number, beside_number, cells_of, name_word, BareOf, IsBeside, IsNone, IsNumber}
+use Rattle.lower_model.proofs.State.{holder_slot, holder_value, stored_in, bare, beside, bare_number, beside_number, BareOf, IsBeside, IsNone, IsNumber}
 use Rattle.lower_model.proofs.Relation.{Fit, Away}
 use Rattle.lower_model.proofs.Pieces.{chooses, closes}
 use Rattle.lower_model.proofs.Answers.{machine, beside_state, reply, after_reply, row_called, Reached}
 use Rattle.lower_model.proofs.Conversions.{bare_is, same_state, ask_to_num}
 use Rattle.lower_model.proofs.Converting.{blocked, own_number}
 use Rattle.lower_model.proofs.Products.{word}
-use Rattle.lower_model.proofs.Written.{fit_global}
-use Rattle.lower_model.proofs.Reading.{kind_below, kind_found}
 use Rattle.lower_model.proofs.Simulation.{work_of, context, layout, ExprOk}
 use Rattle.lower_model.proofs.StatementForms.{flows_on, plain_meant, Starts, starts_after, starts_among, StepDone, StepOk}
 use Rattle.lower_model.proofs.Tidy.{begun_step}
@@ -67,7 +62,7 @@ use Rattle.lower_model.proofs.Branches.{TestDone, test_meant, test_ok, block_end
 use Rattle.lower_model.proofs.Quick.{Sure, sure, shown_by, holder_is, name_is, constant_is, shift_pos, shifted_less, shifted_most, less_holds, most_holds}
 use Rattle.lower_model.proofs.QuickNames.{num_of, word_of, val_of, source_steps, all_flag, all_steps, AllSure, StandsAmong, source_code, none_is, some_is, nought_number, all_sure, among_sure, name_among, source_among, source_still, source_beside, source_is, contrary_holds, two_few, one_few, near_sum, stored_is, none_new, result_of, sum_few}
 use Rattle.lower_model.proofs.Summing.{Summed, summed_in_turn, IsSource, anyway_ok}
-use Rattle.lower_model.proofs.QuickParts.{HolderFits, slot_fits, all_read, all_put, Taken, taken, stored_normal, stored_turns, Two, sum_stored, two_summed, set_code, AllUnboxed, name_got, all_unsure_ok, name_unboxed, summed_means, set_means, Parts, set_sorted}
+use Rattle.lower_model.proofs.QuickParts.{HolderFits, slot_fits, all_read, all_put, Taken, taken, stored_turns, Two, sum_stored, two_summed, set_code, AllUnboxed, name_got, all_unsure_ok, name_unboxed, summed_means, set_means, Parts, set_sorted}
 use Rattle.lower_model.proofs.Evaluating.{plainly_ok}
 
 module _ (p : Program) (deepest : Observer) (ks : List Kind) (F : List Frame) (b : Bases) (M n : ℕ) where

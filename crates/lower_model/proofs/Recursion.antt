@@ -107,7 +107,7 @@ module _ (p : Program) (deepest : Observer) where
 
     lost : (K : List Label) (L : List Cell) (k : Instructions) (why : Stop) → NoReturn p deepest ks F b M n why → (τ : State) (w l : ℕ) (c : Conf) →
         Reaches (machine p deepest ks F) M w l c τ.turns (Lost p deepest (function.waiting ks K L k) F why τ) → Reaches (machine p deepest ks F) M w l c τ.turns (LeftCall p deepest ks F b M n K L k why τ)
-    lost K L k why none τ w l c r = record { conf = r.conf; steps = r.steps; goes = r.goes; cost = r.cost; holds = let q = r.holds in record { comes = q.comes; none = none; after = q.after } }
+    lost K L k why none τ w l c r = record { conf = r.conf; steps = r.steps; goes = r.goes; cost = r.cost; holds = let q = r.holds in record { store = q.store; left = q.left; comes = q.comes; none = none; after = q.after } }
 
     came_back : (K : List Label) (L : List Cell) (k : Instructions) (σ : State) (w l : ℕ) (c : Conf) (r : Outcome Value) → Ends r →
         Arrives (machine p deepest ks F) M w l c (Back p deepest (function.waiting ks K L k) F σ.own) (Lost p deepest (function.waiting ks K L k) F) r →

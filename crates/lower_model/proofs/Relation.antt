@@ -20,14 +20,14 @@ use Rattle.sem_scripts.specs.ScriptState.{State, Stop, TooDeep, Nexted, Exited, 
 use Rattle.mid_program.specs.Sorted.{Held as Standing, There, Moved, Misused, has_kind, calls_of, kinds_of, arrays_among, context_of, is_array_place}
 use Rattle.lower_model.specs.Cells.{Cell, Bits, Held, IteratorOf, OwnedArray, LentArray, is_owned}
 use Rattle.host_imports.specs.Codes.{input_code, stream_code}
-use Rattle.lower_model.specs.Machine.{Conf, Deep, Label, Frame, br, owner_waits}
+use Rattle.lower_model.specs.Machine.{Conf, Deep, Label, Frame, Store, br, owner_waits}
 use Rattle.lower_model.specs.Places.{Bases}
 use Rattle.lower_model.proofs.HostLaws.{Few}
 use Rattle.lower_model.proofs.Observer.{Observer}
 use Rattle.lower_model.proofs.Regions.{upd_other, upd_all}
 use Rattle.lower_model.proofs.Locals.{Locals, Hand, Number as NumberAt, Array, with_at, laid}
 use Rattle.lower_model.proofs.Steps.{empty, unanswered}
-use Rattle.lower_model.proofs.State.{bare, beside, BareIs, AnswerIs, perhaps, store, answering, gone}
+use Rattle.lower_model.proofs.State.{bare, beside, BareIs, AnswerIs, perhaps, answering, StoreLeft}
 
 -- A local for a handle has one or -1, so do those for iterators and for arrays of calls.
 
@@ -358,7 +358,9 @@ module _ (p : Program) (deepest : Observer) (ks : List Kind) (F : List Frame) wh
     -- a function is left: whatever is held is in locals that its exit looks at
     pub record WasLeft (d : ℕ) (K : List Label) (why : Stop) (σ : State) (c : Conf) : Type 0 where
       pub next : Locals
-      pub comes : c ≡ left_to why (br d ks K (laid b next) F (gone p.ranges (kinds_of p.globals) why σ)) (Deep (store p.ranges (kinds_of p.globals) σ))
+      pub store : Store
+      pub left : StoreLeft p.ranges (kinds_of p.globals) why σ store
+      pub comes : c ≡ left_to why (br d ks K (laid b next) F store) (Deep store)
       pub loose : Loose next
       pub answer : next.answer ≡ unanswered
       pub after : StopLeaves why next σ
@@ -394,4 +396,4 @@ module _ (p : Program) (deepest : Observer) (ks : List Kind) (F : List Frame) wh
       answer = a.answer;
       after = a.after;
     }
-    away_out d x K why σ c a = record { next = a.next; comes = a.comes; loose = a.loose; answer = a.answer; after = a.after }
+    away_out d x K why σ c a = record { next = a.next; store = a.store; left = a.left; comes = a.comes; loose = a.loose; answer = a.answer; after = a.after }

@@ -12,7 +12,7 @@ use Rattle.sem_primitives.specs.Numbers.{Number as AnyNumber, number_of, number_
 use Rattle.sem_primitives.specs.ValueMeaning.{number_of_row}
 use Rattle.sem_primitives.proofs.Words.{small}
 use Rattle.wasm_types.specs.Syntax.{Instructions, Done as NoMore}
-use Rattle.wasm_types.specs.declared.instr.Simple.TheVariants.{GlobalSet, I64Const, Binary}
+use Rattle.wasm_types.specs.declared.instr.Simple.TheVariants.{I64Const, Binary}
 use Rattle.wasm_types.specs.declared.instr.IBinOp.TheVariants.{RemS}
 use Rattle.wasm_types.specs.declared.types.ValType.TheVariants as ty
 use Rattle.wasm_store.specs.IntegerParts.{remainder_signed}
@@ -22,15 +22,15 @@ use Rattle.wasm_store.specs.declared.word.Word.TheVariants.{I64}
 use Rattle.mid_program.specs.declared.mid.Arithmetic.{Arithmetic}
 use Rattle.mid_program.specs.declared.mid.Arithmetic.TheVariants as inline
 use Rattle.mid_program.specs.declared.mid.Operation.TheVariants.{Inline}
-use Rattle.mid_program.specs.Mid.{Slot, Kind, Unboxed, Program, Code, form_of, Do, Number, Get, Set, Codes, End, At, Eval}
+use Rattle.mid_program.specs.Mid.{Slot, Kind, Program, Code, form_of, Do, Number, Get, Set, Codes, End, At, Eval}
 use Rattle.sem_primitives.specs.declared.sorts.Sort.TheVariants as sort
 use Rattle.mid_program.specs.MidMeaning.{evaluated, all_evaluated, stepped, or_zero, then_row, store_slot, arithmetic_of}
-use Rattle.sem_scripts.specs.ScriptState.{State, Stop, Outcome, Gives, go_on, settled, give, ◌>>◌, global_value, with_global}
-use Rattle.mid_program.specs.Sorted.{is_slot, fits as fits_sort, sorted, all_sorted, has_kind, kinds_of}
+use Rattle.sem_scripts.specs.ScriptState.{State, Stop, Outcome, Gives, go_on, settled, give, ◌>>◌}
+use Rattle.mid_program.specs.Sorted.{is_slot, fits as fits_sort, sorted, all_sorted, kinds_of}
 use Rattle.sem_scripts.specs.Statements.{Flow, Normal}
 use Rattle.lower_model.specs.Cells.{Bits}
 use Rattle.lower_model.specs.Machine.{Conf, Label, Frame, Store, at, label, with_operands, push_result}
-use Rattle.lower_model.specs.Places.{Bases, number_global, room, arrays_in}
+use Rattle.lower_model.specs.Places.{Bases, room, arrays_in}
 use Rattle.lower_model.specs.Quick.{Holder, OfName, OfParameter, holder_of, multiple_of, remainder_alone, Held, Constant, name_in, factor_in, Multiple, Remainder, product_of, two_product, multiple_in, remainder_of, two_remainder, set_remainder, remainder_in, remainder_names, most_multiplied, multiplied}
 use Rattle.lower_model.specs.Small.{emit}
 use Rattle.lower_model.specs.Emission.{dropped}
@@ -45,7 +45,6 @@ use Rattle.lower_model.proofs.Answers.{machine, beside_state, Reached}
 use Rattle.lower_model.proofs.Converting.{blocked, own_number}
 use Rattle.lower_model.proofs.Products.{word, product, told}
 use Rattle.lower_model.proofs.Inlining.{in_range, checked_in, remainder_small, remainder_word}
-use Rattle.lower_model.proofs.Written.{fit_global}
 use Rattle.lower_model.proofs.Simulation.{work_of, context, layout, ExprOk}
 use Rattle.lower_model.proofs.StatementForms.{flows_on, plain_meant, Starts, starts_after, starts_among, StepDone}
 use Rattle.lower_model.proofs.Branches.{block_ends}

@@ -1,5 +1,5 @@
 -- The machine's store beside a script's state.
-use Rattle.std.proofs.Common.{◌≡◌, ℕ, zero, suc, ◌^◌, false, List, [], ◌∷◌, length, Some, None, Option, sym, ap, ◌∙◌, arith, w64, unsigned_abs, true}
+use Rattle.std.proofs.Common.{◌≡◌, ◌⊎◌, inr, ℕ, zero, suc, ◌^◌, false, List, [], ◌∷◌, length, Some, None, Option, refl, sym, ap, ◌∙◌, arith, w64, unsigned_abs, true}
 use Rattle.std.specs.Prelude.{get_or, nat_eq, ◌-◌}
 use Rattle.std.specs.Int.{cast_signed}
 use Rattle.std.proofs.lemmas.Bool.{ne_eqb}
@@ -131,6 +131,37 @@ cells_of kinds way σ = record {
 abbrev pub host_of : State → Option Fault → Host
 host_of σ fault = record { shared = σ.shared; arguments = []; fault = fault }
 
+-- Once a fault is kept: a boxed name gives its text away for a call that fails, and has nothing then; where several texts are put behind it, it has some of
+-- them already. All else is beside the script's state.
+
+abbrev pub HandWorn : Kind → (was now : Cell) → Type 0
+HandWorn Boxed was now = (now ≡ Gone) ⊎ ((v : Value) × (now ≡ Held v))
+HandWorn Unboxed was now = now ≡ was
+HandWorn ArrayKind was now = now ≡ was
+
+pub record Worn (kinds : List Kind) (was now : Globals) : Type 0 where
+  pub way : now.way ≡ was.way
+  pub status : now.status ≡ was.status
+  pub text : now.text ≡ was.text
+  pub range : (i : ℕ) → now.range i ≡ was.range i
+  pub hand : (i : ℕ) → HandWorn (kind_here kinds i) (was.hand i) (now.hand i)
+  pub number : (i : ℕ) → now.number i ≡ was.number i
+
+hand_worn_self : (k : Kind) (a : ℕ) (v : Value) → HandWorn k (name_hand k a v) (name_hand k a v)
+hand_worn_self Boxed a v = inr (v, refl)
+hand_worn_self Unboxed a v = refl
+hand_worn_self ArrayKind a v = refl
+
+pub worn_self : (kinds : List Kind) (way : ℕ) (σ : State) → Worn kinds (cells_of kinds way σ) (cells_of kinds way σ)
+worn_self kinds way σ = record {
+  way = refl;
+  status = refl;
+  text = refl;
+  range = λ i. refl;
+  hand = λ i. hand_worn_self (kind_here kinds i) (suc (suc (arrays_before kinds i))) (global_value i σ);
+  number = λ i. refl;
+}
+
 module _ (ranges : ℕ) (kinds : List Kind) where
   abbrev pub store_with : (way : ℕ) → Option Fault → State → Store
   store_with way fault σ = record { globals = placed ranges (length kinds) (cells_of kinds way σ); host = host_of σ fault; assigning = None }
@@ -151,3 +182,17 @@ module _ (ranges : ℕ) (kinds : List Kind) where
   gone (Returned v) σ = store σ
   gone OutOfTurns σ = store σ
   gone TooDeep σ = store σ
+
+  -- a store in which a fault is kept, beside these globals
+  pub record KeptBeside (was : Globals) (host : Host) (s : Store) : Type 0 where
+    pub globals : Globals
+    pub worn : Worn kinds was globals
+    pub is : s ≡ record { globals = placed ranges (length kinds) globals; host = host; assigning = None }
+
+  -- what a function that is left leaves
+  abbrev pub StoreLeft : Stop → State → Store → Type 0
+  StoreLeft (Faulted f) σ s = KeptBeside (cells_of kinds way_none σ) (host_of σ (Some f)) s
+  StoreLeft why σ s = s ≡ gone why σ
+
+  pub faulted_left : (way : ℕ) (f : Fault) (σ : State) → KeptBeside (cells_of kinds way σ) (host_of σ (Some f)) (store_with way (Some f) σ)
+  faulted_left way f σ = record { globals = cells_of kinds way σ; worn = worn_self kinds way σ; is = refl }

@@ -20,13 +20,12 @@ use Rattle.wasm_store.specs.Words.{flag, given_by}
 use Rattle.wasm_store.specs.declared.word.Word.TheVariants.{I64}
 use Rattle.mid_program.specs.declared.mid.Arithmetic.{Arithmetic}
 use Rattle.mid_program.specs.declared.mid.Arithmetic.TheVariants as inline
-use Rattle.mid_program.specs.Mid.{Kind, Unboxed, Program, Global, a_number}
+use Rattle.mid_program.specs.Mid.{Kind, Unboxed, Program, a_number}
 use Rattle.mid_program.specs.MidMeaning.{or_zero, arithmetic_of, store_slot}
-use Rattle.sem_scripts.specs.ScriptState.{State, Outcome, Gives, local_value, ◌>>◌, give, go_on, settled, global_value, with_global}
+use Rattle.sem_scripts.specs.ScriptState.{State, Outcome, Gives, local_value, ◌>>◌, give, go_on, settled, global_value}
 use Rattle.mid_program.specs.Sorted.{has_kind, kinds_of}
 use Rattle.sem_scripts.specs.Steps.{zero_number}
 use Rattle.lower_model.specs.Cells.{Cell, Bits, Held, is_owned}
-use Rattle.lower_model.specs.Emission.{slot_set}
 use Rattle.lower_model.specs.Machine.{Conf, Label, Frame, Store, at, label, with_operands, push_result}
 use Rattle.lower_model.specs.Places.{Bases, number_local}
 use Rattle.lower_model.specs.Quick.{Holder, OfName, OfParameter, Source, Held as Standing, Constant, Sum, is_sum, sum_op}

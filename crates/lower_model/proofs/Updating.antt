@@ -18,20 +18,20 @@ use Rattle.wasm_types.specs.Syntax.{Instructions, Done as NoMore}
 use Rattle.wasm_types.specs.declared.types.ValType.TheVariants as ty
 use Rattle.wasm_types.specs.declared.instr.IBinOp.TheVariants as bin
 use Rattle.wasm_types.specs.declared.instr.IRelOp.TheVariants.{GtU}
-use Rattle.wasm_types.specs.declared.instr.Simple.TheVariants.{Br, LocalGet, LocalTee, GlobalSet, I32Const, I64Const, Binary, Compare as Comparing}
+use Rattle.wasm_types.specs.declared.instr.Simple.TheVariants.{Br, LocalGet, LocalTee, I32Const, I64Const, Binary, Compare as Comparing}
 use Rattle.wasm_store.specs.Integers.{binary_at}
 use Rattle.wasm_store.specs.Words.{flag, given_by}
 use Rattle.wasm_store.specs.declared.word.Word.TheVariants.{I32, I64}
 use Rattle.mid_program.specs.declared.mid.Arithmetic.{Arithmetic}
 use Rattle.mid_program.specs.declared.mid.Arithmetic.TheVariants as inline
 use Rattle.mid_program.specs.declared.mid.Operation.TheVariants.{Inline}
-use Rattle.mid_program.specs.Mid.{Kind, Unboxed, Program, Global, Code, Do, Get, Set, Let, Bound, Codes, End, At, Eval, a_number, a_value, form_of, Slot, Form}
+use Rattle.mid_program.specs.Mid.{Kind, Program, Code, Do, Get, Set, Let, Bound, Codes, End, At, Eval, a_number, a_value, form_of, Slot, Form}
 use Rattle.mid_program.specs.MidMeaning.{Holds, converted, evaluated, all_evaluated, stepped, then_row, arithmetic_of, store_slot}
 use Rattle.sem_scripts.specs.ScriptState.{State, Faulted, Outcome, ◌>>◌, give, go_on, settled, global_value, local_value}
-use Rattle.mid_program.specs.Sorted.{There, has_kind, kinds_of, sorted, all_sorted, is_kept, keeps_well, fits as fits_sort}
+use Rattle.mid_program.specs.Sorted.{There, kinds_of, sorted, all_sorted, is_kept, keeps_well, fits as fits_sort}
 use Rattle.sem_scripts.specs.Statements.{Normal}
 use Rattle.lower_model.specs.Cells.{Bits}
-use Rattle.lower_model.specs.Emission.{field_at, text_dropped}
+use Rattle.lower_model.specs.Emission.{field_at}
 use Rattle.lower_model.specs.Machine.{Conf, Label, Frame, at, with_operands, push_result}
 use Rattle.lower_model.specs.Places.{Bases, room, arrays_in, number_local}
 use Rattle.lower_model.specs.Quick.{Update, is_sum, sum_op, name_in, update_of, kept_update, set_update, let_update, update_in, Holder, holder_of, update_after, OfName, OfParameter}

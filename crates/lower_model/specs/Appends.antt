@@ -2,7 +2,6 @@
 -- and calls no function, the name gives its text away for each of them, so that nobody else holds it and the host can write behind it.
 use Rattle.std.specs.Prelude.{ℕ, Bool, true, false, not, ◌&&◌, ◌||◌, nat_eq, Option, Some, None}
 use Rattle.sem_primitives.specs.declared.table.Primitive.TheVariants as row
-use Rattle.mid_program.specs.declared.mid.Operation.{Operation}
 use Rattle.mid_program.specs.declared.mid.Operation.TheVariants.{Host}
 use Rattle.mid_program.specs.Mid.{Slot, Global, Parameter, Code, Do, Over, Compare, Number, Text, Get, Set, Array, IsOpen, Choose, Seq, Codes, End, At, Fixed}
 use Rattle.sem_scripts.specs.Names.{ArrayName, Given}

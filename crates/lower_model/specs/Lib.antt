@@ -4,6 +4,7 @@ pub mod Machine
 pub mod Places
 pub mod Small
 pub mod Appends
+pub mod AppendExamples
 pub mod Arithmetic
 pub mod Quick
 pub mod Emission
