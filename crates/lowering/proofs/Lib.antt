@@ -7,3 +7,4 @@ pub mod Stepping
 pub mod QuickNames
 pub mod Ways
 pub mod Choices
+pub mod Appending

@@ -56,4 +56,4 @@ returns-in-None c =
     let no_sum : None ≡ sum_in (view c.args.code.now) = sym (ap (option_map view_sum) c.in_default.is) ∙ c.sum_in.ensures in
     let no_update : None ≡ update_in (view c.args.code.now) = sym (ap (option_map view_update) c.in_default-update_in.is) ∙ c.update_in.ensures in
     let no_tally : None ≡ tally_in (view c.args.code.now) = sym (ap (option_map view_tally) c.in_default-tally_in.is) ∙ c.tally_in.ensures in
-    λ k. c.done_alone.ensures k ⨟ same (last_way (view_layout c.args.layout.now) (view c.args.code.now) c.args.exit k _ no_sum no_update no_tally c.in-None.ensures)
+    λ k. c.appended_done.ensures k ⨟ same (last_way (view_layout c.args.layout.now) (view c.args.code.now) c.args.exit k _ no_sum no_update no_tally c.in-None.ensures)
