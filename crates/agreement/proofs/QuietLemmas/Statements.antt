@@ -146,8 +146,10 @@ module _ (m : ProgramForm) (P : Conf → Type 0) (bs : List Bool) (base : Conf) 
 
     quick_flows : {K : List LabelForm} (o : Option Sum) (d : ℕ) (k : Instructions) → sum_in (Set x e) ≡ o → ((gs L : List Word) → Flows m P bs base K gs L [] k) →
         Flows m P bs base K base.globals base.frame.locals [] (quickly_dropped y o (Set x e) d k)
-    quick_flows {K = K0} None d k h next = subst (λ (r : Option Remainder). Flows m P bs base K0 base.globals base.frame.locals [] (remainder_dropped y r (Set x e) d k)) (sym (no_remainder x e sum))
-        (subst (λ (q : Option Append). Flows m P bs base K0 base.globals base.frame.locals [] (appended_dropped y q (Set x e) d k)) (sym (no_append x e target)) (dropped_flows d k next))
+    quick_flows {K = K0} None d k h next =
+        subst (λ (r : Option Remainder). Flows m P bs base K0 base.globals base.frame.locals [] (remainder_dropped y r (Set x e) d k)) (sym (no_remainder x e sum))
+        (subst (λ (q : Option Append). Flows m P bs base K0 base.globals base.frame.locals [] (appended_dropped y q (Set x e) d k)) (sym (no_append x e target))
+        (dropped_flows d k next))
     quick_flows (Some s) d k h next =
         all_flows y (sum_names s) _ _ (λ v. branch (λ n q z. anyway_flows s (suc d) (sum_clear x e s h target sum) (λ gs L. ended (next gs L))) (λ n q z. summed_flows s (λ gs M. ended (next gs M))))
 

@@ -153,13 +153,16 @@ module _ (tells : Bool) (y : Layout) (sizes : ℕ → Option ℕ) (whole : Progr
 
     -- texts behind a name's own
     text_spares : (i : ℕ) (s : Code) (d : ℕ) → sorted c [] s ≡ true → names_argv s ≡ false → So e (text_appended y i s d k)
-    text_spares i s d o q = emitted_spares tells y sizes c sized same (to_value_spares tells y sizes joined (form_of [] s) zero) false [] [] s zero zero d none_kept o q
+    text_spares i s d o q =
+        emitted_spares tells y sizes c sized same (to_value_spares tells y sizes joined (form_of [] s) zero) false [] [] s zero zero d none_kept o q
       where
-        joined : So e (emit (GlobalGet (handle_global y.ranges i)) (moved_out (handle_local b zero) (ask_row row.Concat (kept_value b true zero d (moved_out (handle_local b zero) (emit (GlobalSet (handle_global y.ranges i)) k))))))
+        joined : So e (emit (GlobalGet (handle_global y.ranges i)) (moved_out (handle_local b zero) (ask_row row.Concat (kept_value b true zero d
+            (moved_out (handle_local b zero) (emit (GlobalSet (handle_global y.ranges i)) k))))))
         joined = record { so = λ A. (true, (λ q. named tells y sizes i), (refl, (refl, r.so A))) }
 
   module _ {e : Bool} where
-    chain_spares : {k : Instructions} {x : Slot} {s : Code} (r : So e k) (i d : ℕ) → IsChain x s → sorted c [] s ≡ true → names_argv s ≡ false → So e (chain_appended y i s d k)
+    chain_spares : {k : Instructions} {x : Slot} {s : Code} (r : So e k) (i d : ℕ) → IsChain x s → sorted c [] s ≡ true → names_argv s ≡ false →
+        So e (chain_appended y i s d k)
     chain_spares r i d (one_text z a n m) o q =
         text_spares r i a d (last_sorted c (Get z) a o).1 (or_none (names_argv a) false q).0
     chain_spares {k = k} r i d (more_texts p a n m) o q =
@@ -167,11 +170,13 @@ module _ (tells : Bool) (y : Layout) (sizes : ℕ → Option ℕ) (whole : Progr
         let u = or_none (names_argv p) (names_argv a || false) q in
         subst (So e) (sym (last_appended y i a d k n)) (chain_spares (text_spares r i a d t.1 (or_none (names_argv a) false u.1).0) i d n t.0 u.0)
 
-    appended_spares : {k : Instructions} (r : So e k) (o : Option Append) (s : Code) (d : ℕ) → append_in s ≡ o → sorted c [] s ≡ true → names_argv s ≡ false → So e (appended_dropped y o s d k)
+    appended_spares : {k : Instructions} (r : So e k) (o : Option Append) (s : Code) (d : ℕ) → append_in s ≡ o → sorted c [] s ≡ true →
+        names_argv s ≡ false → So e (appended_dropped y o s d k)
     appended_spares r None s d h o q = dropped_spares tells y sizes c sized same r [] [] s zero zero d none_kept o q
     appended_spares r (Some x) s d h o q =
         let t = append_is s x h in
-        chain_spares r x.target d t.chain (chain_sorted c x.target x.chain (subst (λ z. sorted c [] z ≡ true) t.code o)).1 (subst (λ z. names_argv z ≡ false) t.code q)
+        chain_spares r x.target d t.chain (chain_sorted c x.target x.chain (subst (λ z. sorted c [] z ≡ true) t.code o)).1
+        (subst (λ z. names_argv z ≡ false) t.code q)
 
   module _ {e : Bool} {k : Instructions} (r : So e k) where
     remainder_spares : (o : Option Remainder) (s : Code) (d : ℕ) → sorted c [] s ≡ true → names_argv s ≡ false → So e (remainder_dropped y o s d k)
