@@ -306,9 +306,10 @@ module _ (y : Layout) where
   text_deep : {k : Instructions} {m : ℕ} (i : ℕ) (e : Code) (d : ℕ) → Deep k m → Deep (text_appended y i e d k) m
   text_deep i e d r = emitted_deep y false [] [] e zero zero d (joined_deep i (form_of [] e) d r)
 
-  chain_deep : {k : Instructions} {m : ℕ} {x : Slot} {e : Code} (i d : ℕ) → IsChain x e → Deep k m → Deep (chain_appended y i e d k) m
+  chain_deep : {m : ℕ} {x : Slot} {e : Code} {k : Instructions} (i d : ℕ) → IsChain x e → Deep k m → Deep (chain_appended y i e d k) m
   chain_deep i d (one_text z a n s) r = text_deep i a d r
-  chain_deep {k = k} {m = m} i d (more_texts c a q s) r = subst (λ (j : Instructions). Deep j m) (sym (last_appended y i a d k q)) (chain_deep i d q (text_deep i a d r))
+  chain_deep {m = m} {k = k} i d (more_texts c a q s) r =
+      subst (λ (j : Instructions). Deep j m) (sym (last_appended y i a d k q)) (chain_deep {k = text_appended y i a d k} i d q (text_deep i a d r))
 
   appended_deep : {k : Instructions} {m : ℕ} (o : Option Append) (e : Code) (d : ℕ) → append_in e ≡ o → Deep k m → Deep (appended_dropped y o e d k) m
   appended_deep None e d h r = dropped_deep y [] [] e zero zero d r
@@ -357,17 +358,17 @@ module _ (y : Layout) where
   text_labelled : (k : Instructions) (i : ℕ) (e : Code) (d : ℕ) → Deep (text_appended y i e d k) (labels_in e)
   text_labelled k i e d = labelled _ false [] [] e zero zero d
 
-  chain_labelled : (k : Instructions) {x : Slot} {e : Code} (i d : ℕ) → IsChain x e → Deep (chain_appended y i e d k) (labels_in e)
-  chain_labelled k i d (one_text z a n s) = at_least (text_labelled k i a d) (omega arith)
-  chain_labelled k i d (more_texts c a q s) =
+  chain_labelled : {x : Slot} {e : Code} (i d : ℕ) → IsChain x e → (k : Instructions) → Deep (chain_appended y i e d k) (labels_in e)
+  chain_labelled i d (one_text z a n s) k = at_least (text_labelled k i a d) (omega arith)
+  chain_labelled i d (more_texts c a q s) k =
       subst (λ (j : Instructions). Deep j (labels_in (Do (Host row.Concat) (At c (At a End))))) (sym (last_appended y i a d k q))
-      (at_least (both (chain_labelled _ i d q) (chain_deep i d q (text_labelled k i a d))) (omega arith))
+      (at_least (both (chain_labelled i d q (text_appended y i a d k)) (chain_deep {k = text_appended y i a d k} i d q (text_labelled k i a d))) (omega arith))
 
   appended_labelled : (k : Instructions) (o : Option Append) (e : Code) (d : ℕ) → append_in e ≡ o → Deep (appended_dropped y o e d k) (labels_in e)
   appended_labelled k None e d h = labelled _ true [] [] e zero zero d
   appended_labelled k (Some q) e d h =
       let t = append_is e q h in
-      at_least (chain_labelled k q.target d t.chain) (let n = ap labels_in t.code in omega (arith, n))
+      at_least (chain_labelled q.target d t.chain k) (let n = ap labels_in t.code in omega (arith, n))
 
   remainder_labelled : (k : Instructions) (o : Option Remainder) (e : Code) (d : ℕ) → Deep (remainder_dropped y o e d k) (labels_in e)
   remainder_labelled k None e d = appended_labelled k (append_in e) e d refl

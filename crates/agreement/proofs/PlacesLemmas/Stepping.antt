@@ -167,10 +167,10 @@ module _ (y : Layout) (l : Limit) (G : (t f : ℕ) → Codes → Type 0)
       emitted_nops y l G enough false [] [] e zero zero d (λ z. still_few G x e zero h)
       (to_value_nops b (form_of [] e) zero (record { are = r.are; calls = r.calls; frees = r.frees }))
 
-  chain_nops : {k : Instructions} {m : List Instructions} {x : Slot} {e : Code} (i d : ℕ) → IsChain x e → Nops l k m → Nops l (chain_appended y i e d k) m
+  chain_nops : {m : List Instructions} {x : Slot} {e : Code} {k : Instructions} (i d : ℕ) → IsChain x e → Nops l k m → Nops l (chain_appended y i e d k) m
   chain_nops {x = x} i d (one_text z a n h) r = text_nops x i a d h r
-  chain_nops {k = k} {m = m} {x = x} i d (more_texts c a n h) r =
-      subst (λ (j : Instructions). Nops l j m) (sym (last_appended y i a d k n)) (chain_nops i d n (text_nops x i a d h r))
+  chain_nops {m = m} {x = x} {k = k} i d (more_texts c a n h) r =
+      subst (λ (j : Instructions). Nops l j m) (sym (last_appended y i a d k n)) (chain_nops {k = text_appended y i a d k} i d n (text_nops x i a d h r))
 
   appended_nops : {k : Instructions} {m : List Instructions} (o : Option Append) (e : Code) (d : ℕ) → append_in e ≡ o →
       (l.asked ≡ true → Meets G zero e) → Nops l k m → Nops l (appended_dropped y o e d k) m

@@ -187,9 +187,10 @@ module _ (y : Layout) (names : length y.names ≤ 2 ^ 24) (memory : length (memo
   text_fits : {k : Instructions} (i : ℕ) (e : Code) (d : ℕ) → Small e → Fits k → Fits (text_appended y i e d k)
   text_fits i e d s r = emitted_fits y names memory false [] [] e zero zero d s (to_value_fits b (form_of [] e) zero (record { has = r.has }))
 
-  chain_fits : {k : Instructions} {x : Slot} {e : Code} (i d : ℕ) → IsChain x e → Small e → Fits k → Fits (chain_appended y i e d k)
+  chain_fits : {x : Slot} {e : Code} {k : Instructions} (i d : ℕ) → IsChain x e → Small e → Fits k → Fits (chain_appended y i e d k)
   chain_fits i d (one_text z a n q) s r = text_fits i a d s.1.0 r
-  chain_fits {k = k} i d (more_texts c a n q) s r = subst Fits (sym (last_appended y i a d k n)) (chain_fits i d n s.0 (text_fits i a d s.1.0 r))
+  chain_fits {k = k} i d (more_texts c a n q) s r =
+      subst Fits (sym (last_appended y i a d k n)) (chain_fits {k = text_appended y i a d k} i d n s.0 (text_fits i a d s.1.0 r))
 
   appended_fits : {k : Instructions} (o : Option Append) (e : Code) (d : ℕ) → append_in e ≡ o → Small e → Fits k → Fits (appended_dropped y o e d k)
   appended_fits None e d h s r = dropped_fits y names memory [] [] e zero zero d s r

@@ -187,14 +187,15 @@ module _ {p : Program} {ks : List Kind} {b : Bases} {C : Context} (at : Stands p
         (to_value_ok at (form_of [] e) lt (read (at.name_handle i li) (moved_out_ok at (at.handle 0 lt) (called [] (at.imported (OfPrimitive row.Concat))
         (kept_value_ok at true lt x (moved_out_ok at (at.handle 0 lt) (write (at.name_handle i li) r)))))))
 
-    chain_appended_ok : {k : Instructions} {y : Slot} {e : Code} {i d : ℕ} → IsChain y e → i < length (kinds_of p.globals) → sorted (context_of p ks) [] e ≡ true →
+    chain_appended_ok : {y : Slot} {i d : ℕ} {e : Code} {k : Instructions} → IsChain y e → i < length (kinds_of p.globals) → sorted (context_of p ks) [] e ≡ true →
         room e ≤ b.temporaries → arrays_in e ≤ b.arrays → Exit L d → CodeOk C L k [] rs → CodeOk C L (chain_appended (layout_of p b) i e d k) [] rs
     chain_appended_ok (one_text z a n q) li s h g x r =
         text_appended_ok a li (last_sorted (context_of p ks) (Get z) a s).1 (omega (arith, h)) (omega (arith, g)) x r
-    chain_appended_ok {k = k} {i = i} {d = d} (more_texts c a n q) li s h g x r =
+    chain_appended_ok {i = i} {d = d} {k = k} (more_texts c a n q) li s h g x r =
         let t = last_sorted (context_of p ks) c a s in
         subst (λ (j : Instructions). CodeOk C L j [] rs) (sym (last_appended (layout_of p b) i a d k n))
-        (chain_appended_ok n li t.0 (omega (arith, h)) (omega (arith, g)) x (text_appended_ok a li t.1 (omega (arith, h)) (omega (arith, g)) x r))
+        (chain_appended_ok {k = text_appended (layout_of p b) i a d k} n li t.0 (omega (arith, h)) (omega (arith, g)) x
+        (text_appended_ok a li t.1 (omega (arith, h)) (omega (arith, g)) x r))
 
     appended_dropped_ok : {k : Instructions} (o : Option Append) (e : Code) (d : ℕ) → append_in e ≡ o → sorted (context_of p ks) [] e ≡ true → room e ≤ b.temporaries →
         arrays_in e ≤ b.arrays → Exit L d → CodeOk C L k [] rs → CodeOk C L (appended_dropped (layout_of p b) o e d k) [] rs

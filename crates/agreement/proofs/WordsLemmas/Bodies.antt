@@ -161,14 +161,14 @@ module _ (tells : Bool) (y : Layout) (sizes : ℕ → Option ℕ) (whole : Progr
         joined = record { so = λ A. (true, (λ q. named tells y sizes i), (refl, (refl, r.so A))) }
 
   module _ {e : Bool} where
-    chain_spares : {k : Instructions} {x : Slot} {s : Code} (r : So e k) (i d : ℕ) → IsChain x s → sorted c [] s ≡ true → names_argv s ≡ false →
+    chain_spares : {x : Slot} {s : Code} {k : Instructions} (r : So e k) (i d : ℕ) → IsChain x s → sorted c [] s ≡ true → names_argv s ≡ false →
         So e (chain_appended y i s d k)
     chain_spares r i d (one_text z a n m) o q =
         text_spares r i a d (last_sorted c (Get z) a o).1 (or_none (names_argv a) false q).0
     chain_spares {k = k} r i d (more_texts p a n m) o q =
         let t = last_sorted c p a o in
         let u = or_none (names_argv p) (names_argv a || false) q in
-        subst (So e) (sym (last_appended y i a d k n)) (chain_spares (text_spares r i a d t.1 (or_none (names_argv a) false u.1).0) i d n t.0 u.0)
+        subst (So e) (sym (last_appended y i a d k n)) (chain_spares {k = text_appended y i a d k} (text_spares r i a d t.1 (or_none (names_argv a) false u.1).0) i d n t.0 u.0)
 
     appended_spares : {k : Instructions} (r : So e k) (o : Option Append) (s : Code) (d : ℕ) → append_in s ≡ o → sorted c [] s ≡ true →
         names_argv s ≡ false → So e (appended_dropped y o s d k)

@@ -1,0 +1,31 @@
+use Rattle.std.proofs.Common.{sym}
+use Rattle.mid_program.specs.ViewCode.{view}
+use Rattle.lower_expressions.specs.View.{view_layout}
+use Rattle.lower_pieces.proofs.Appended.{◌⨟◌, same}
+use Rattle.lowering.proofs.Appending.{chained_fits, first_appended, later_appended, no_chain_fits, read_fits}
+use Rattle.lowering.proofs.appending.+chain_appended.Goals as goal
+
+pub text_appended-requires-clause-fit : goal.text_appended-requires-clause-fit
+text_appended-requires-clause-fit t c =
+    read_fits (view_layout c.args.layout.now) (view c.args.chain.now) (view c.in-Some.before.now) (view c.in-Some.code.now) c.args.exit c.in-Some.ensures (sym c.if-is_read.ensures) c.requires.chain
+
+pub chain_appended-requires-clause-chain : goal.chain_appended-requires-clause-chain
+chain_appended-requires-clause-chain t c =
+    (chained_fits (view_layout c.args.layout.now) (view c.args.chain.now) (view c.in-Some.before.now) (view c.in-Some.code.now) c.args.exit c.in-Some.ensures (sym c.if-is_read.ensures) c.requires.chain).0
+
+pub text_appended-requires-2-clause-fit : goal.text_appended-requires-2-clause-fit
+text_appended-requires-2-clause-fit t c =
+    (chained_fits (view_layout c.args.layout.now) (view c.args.chain.now) (view c.in-Some.before.now) (view c.in-Some.code.now) c.args.exit c.in-Some.ensures (sym c.if-is_read.ensures) c.requires.chain).1
+
+pub returns-then-is_read : goal.returns-then-is_read
+returns-then-is_read t c = λ k.
+    c.text_appended.ensures k
+    ⨟ same (first_appended (view_layout c.args.layout.now) c.args.name (view c.args.chain.now) (view c.in-Some.before.now) (view c.in-Some.code.now) c.args.exit k c.in-Some.ensures (sym c.if-is_read.ensures))
+
+pub returns-else-is_read : goal.returns-else-is_read
+returns-else-is_read t c = λ k.
+    c.text_appended-2.ensures k ⨟ c.chain_appended.ensures _
+    ⨟ same (later_appended (view_layout c.args.layout.now) c.args.name (view c.args.chain.now) (view c.in-Some.before.now) (view c.in-Some.code.now) c.args.exit k c.in-Some.ensures (sym c.if-is_read.ensures))
+
+pub returns-in-None : goal.returns-in-None
+returns-in-None t c = absurd (no_chain_fits (view_layout c.args.layout.now) (view c.args.chain.now) c.args.exit c.in-None.ensures c.requires.chain)
