@@ -104,4 +104,6 @@ module _ (y : Layout) where
   -- nothing else is a chain
   pub no_chain_fits : (e : Code) (d : ℕ) → None ≡ concat_in e → ChainFits y e d → ⊥
   no_chain_fits (Do (Host row.Concat) (At b (At a End))) d h f = cc
+  no_chain_fits (Do (Host row.Concat) (At (Get z) es)) d h f = f
+  no_chain_fits (Do (Host row.Concat) (At b es)) d h f = f
   no_chain_fits e d h f = f
