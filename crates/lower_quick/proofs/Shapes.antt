@@ -1,7 +1,7 @@
 -- The parts of code and of steps as they stand in memory.
 use Rattle.std.proofs.Common.{◌≡◌, ℕ, zero, suc, ◌+◌, ◌<◌, ◌≢◌, Bool, true, false, List, [], ◌∷◌, drop, drop-cons, length, get_or, map, Option, Some, None, true≢false, refl, sym, ap, ◌∙◌, arith}
 use Rattle.std.specs.Option.{option_map}
-use Rattle.std.specs.Prelude.{ℤ, cond, if◌then◌else◌, nat_eq, ◌&&◌}
+use Rattle.std.specs.Prelude.{ℤ, cond, if◌then◌else◌, ◌&&◌}
 use Rattle.std.specs.Bool.{◌==◌}
 use Rattle.std.proofs.lemmas.Bool.Decides.{nat_tests}
 use Rattle.std.specs.declared.boxed.Box.{Box}

@@ -152,7 +152,8 @@ fn is_chain(slot: Slot, code: &Code) -> bool
     ensures { result ≡ is_chain (view_slot slot) (view code.now) }
 {
     match concat_in(code) {
-        Some((left, right)) => is_still(slot, right) && (is_name(slot, left) || is_chain(slot, left)),
+        Some((left, right)) => is_still(slot, right)
+            && (is_name(slot, left) || is_chain(slot, left)),
         None => false,
     }
 }

@@ -7,4 +7,4 @@ pub mod Stepping
 pub mod QuickNames
 pub mod Ways
 pub mod Choices
-pub mod Appending
+pub mod Chains

@@ -5,7 +5,7 @@ use Rattle.lower_model.specs.Statements.{appended_dropped}
 use Rattle.lower_expressions.specs.View.{view_layout}
 use Rattle.lower_pieces.specs.Emits.{Emits}
 use Rattle.lower_quick.specs.View.{view_append}
-use Rattle.lowering.proofs.Appending.{append_fits}
+use Rattle.lowering.proofs.Chains.{append_fits}
 use Rattle.lowering.proofs.evaluating.appended_done.Goals as goal
 
 pub chain_appended-requires-clause-name : goal.chain_appended-requires-clause-name

@@ -4,7 +4,7 @@ use Rattle.std.specs.Prelude.{if◌then◌else◌, is_some}
 use Rattle.sem_primitives.specs.declared.table.Primitive.TheVariants as row
 use Rattle.wasm_types.specs.Syntax.{Instructions}
 use Rattle.mid_program.specs.declared.mid.Operation.TheVariants.{Host}
-use Rattle.mid_program.specs.Mid.{Slot, Global, Code, Do, Over, Compare, Call, Ask, AskLine, FileLine, Replace, Number, Text, Unset, Get, Set, Array, IsOpen, Choose, Seq, Let, Bound, Codes, End, At, Fixed, Fresh}
+use Rattle.mid_program.specs.Mid.{Slot, Code, Do, Over, Compare, Call, Ask, AskLine, FileLine, Replace, Number, Text, Unset, Get, Set, Array, IsOpen, Choose, Seq, Let, Bound, Codes, End, At, Fixed, Fresh}
 use Rattle.lower_model.specs.Appends.{Append, append_in}
 use Rattle.lower_model.specs.Emission.{Layout}
 use Rattle.lower_model.specs.Quick.{addition_in}
@@ -104,4 +104,6 @@ module _ (y : Layout) where
   -- nothing else is a chain
   pub no_chain_fits : (e : Code) (d : ℕ) → None ≡ concat_in e → ChainFits y e d → ⊥
   no_chain_fits (Do (Host row.Concat) (At b (At a End))) d h f = cc
+  no_chain_fits (Do (Host row.Concat) (At (Get z) es)) d h f = f
+  no_chain_fits (Do (Host row.Concat) (At b es)) d h f = f
   no_chain_fits e d h f = f
