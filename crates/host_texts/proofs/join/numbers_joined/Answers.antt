@@ -1,5 +1,6 @@
-use Rattle.std.proofs.Common.{◌≡◌, ◌≤◌, ◌++◌, ◌∷◌, ℕ, List, length, drop, Result, Ok, Err, IfOk, sym, ap, ◌∙◌, arith, rules, if◌then◌else◌}
+use Rattle.std.proofs.Common.{◌≡◌, ◌≤◌, ◌-◌, ◌^◌, ◌++◌, ◌∷◌, ℕ, List, length, drop, Result, Ok, Err, IfOk, sym, ap, ◌∙◌, arith, rules, if◌then◌else◌}
 use Rattle.std.proofs.lemmas.Bool.{le-leb}
+use Rattle.std.proofs.lemmas.List.{length-drop, take_all}
 use Rattle.std.specs.Fmt.{signed_decimal}
 use Rattle.awk_values.specs.declared.fault.Fault.TheVariants.{TextLimit}
 use Rattle.awk_values.specs.declared.value.Value.TheVariants as value
@@ -18,4 +19,7 @@ pub returns : goal.returns
 returns c =
     let written : drop c.write_key-start.result c.write_key-start.new.room ≡ signed_decimal c.args.left ++ c.args.between ∷ signed_decimal c.args.right = search rules in
     let short : length (signed_decimal c.args.left ++ c.args.between ∷ signed_decimal c.args.right) ≤ 41 = search rules in
-    made c.put_into.result _ _ c.put_into.ensures written short
+    let start = c.write_key-start.result in
+    let room = c.write_key-start.new.room in
+    let all : length (drop start room) ≤ 41 - start = omega (arith, length-drop start room) in
+    made c.put_into.result _ _ c.put_into.ensures (take_all (41 - start) (drop start room) all ∙ written) short
