@@ -234,9 +234,9 @@ impl<W: World> Host<W> {
         ensures { (memory : List ℕ) → Means W.is_modelled W.state W.did (OfPrimitive row.Join)
             self.old words.now memory result self.new }
     {
-        let tables = &self.tables;
+        let tables = &mut self.tables;
         let import = Import::OfPrimitive(Primitive::Join);
-        match join_texts(tables.alloc, &tables.handles, &tables.texts, words) {
+        match join_texts(tables.alloc, &mut tables.handles, &tables.texts, words) {
             Ok(evaluated) => self.settle(import, evaluated),
             Err(refusal) => self.tell(import, Err(refusal)),
         }

@@ -135,11 +135,8 @@ impl<W: World> Host<W> {
         ensures { (memory : List ℕ) → Means W.is_modelled W.state W.did (OfPrimitive row.Concat)
             self.old words.now memory result self.new }
     {
-        let import = Import::OfPrimitive(Primitive::Concat);
-        match concat(self.tables.alloc, &self.tables.handles, words) {
-            Ok(evaluated) => self.settle(import, evaluated),
-            Err(refusal) => self.tell(import, Err(refusal)),
-        }
+        let outcome = concat(self.tables.alloc, &mut self.tables.handles, words);
+        self.tell(Import::OfPrimitive(Primitive::Concat), outcome)
     }
 
     /// A power of numbers.

@@ -1,19 +1,23 @@
 //! The table of values by handle.
-ghost use Rattle.std.specs.Prelude.{◌≡◌, ◌≤ℤ◌, ◌<ℤ◌, pos, IfOk, IfErr, IfSome, IfNone, OnErr, OnOk, None, option_copied};
+ghost use Rattle.std.specs.Prelude.{◌≡◌, ◌≤ℤ◌, ◌<ℤ◌, pos, IfOk, IfErr, IfSome, IfNone, OnErr, OnOk, None, Some, option_copied, true};
 ghost use Rattle.std.specs.FinMap as map;
 ghost use Rattle.slab.specs.Slab.{HasRoomFor};
 ghost use Rattle.host_handles.specs.Tables.{most_slots};
 
 use crate::MAX_SLOTS;
-use awk_values::Value;
+use awk_values::{Bytes, Value};
 use slab::Slab;
 use std::alloc::{AllocError, Global};
 use std::marker::Model;
+use std::mem::replace;
 
 /// Values, each under a handle: a number from 0 to 2^31 - 2. Contracts see a finite map from handles to values.
+///
+/// The room of a text that was let go last is kept for one that is made next. No contract sees it.
 #[derive(Drop)]
 pub struct Handles {
     slab: Slab<Value>,
+    spare: Option<Bytes>,
 }
 
 impl Model for Handles {
@@ -43,6 +47,15 @@ fn slot_of(handle: i32) -> Option<usize>
     Some(handle as usize)
 }
 
+/// The slot of a handle that has a value.
+#[inline(always)]
+fn slot_in_use(handle: i32) -> usize
+    requires { pos 0 ≤ℤ handle }
+    ensures { handle ≡ pos result }
+{
+    handle as usize
+}
+
 /// Makes room for one more value. Mostly there is some.
 #[inline(always)]
 fn make_room(slab: &mut Slab<Value>) -> Result<(), AllocError>
@@ -62,6 +75,7 @@ impl Handles {
     {
         Handles {
             slab: Slab::new(alloc),
+            spare: None,
         }
     }
 
@@ -107,6 +121,58 @@ impl Handles {
     {
         let slab = &mut self.slab;
         slab.try_remove(slot_of(handle)?)
+    }
+
+    /// Puts a value in the place of the one under a handle, which is taken out.
+    #[inline(always)]
+    pub fn replace(&mut self, handle: i32, value: Value) -> Value
+        requires { map.contains_key self.old handle ≡ true }
+        ensures from_zero { pos 0 ≤ℤ handle }
+        ensures value { map.get self.old handle ≡ Some result }
+        ensures replaced { self.new ≡ map.insert self.old handle value }
+    {
+        replace(&mut self.slab[slot_in_use(handle)], value)
+    }
+
+    /// Keeps the room of a text. It stands apart, so that who lets a value go needs few registers.
+    #[inline(never)]
+    fn keep_room(&mut self, text: Bytes)
+        ensures { self.new ≡ self.old }
+    {
+        self.spare = Some(text);
+    }
+
+    /// Lets a value go, and keeps the room of its text where nobody else needs it.
+    #[inline(always)]
+    pub fn let_go(&mut self, value: Value)
+        ensures { self.new ≡ self.old }
+    {
+        match value {
+            Value::Text(text) | Value::StrNum(text) => {
+                if text.is_room() {
+                    self.keep_room(text);
+                }
+            }
+            Value::Num(_) | Value::Uninit => {}
+        }
+    }
+
+    /// Lets the value under a handle go, where there is one.
+    #[inline(always)]
+    pub fn spend(&mut self, handle: i32)
+        ensures { self.new ≡ map.remove self.old handle }
+    {
+        if let Some(value) = self.take(handle) {
+            self.let_go(value);
+        }
+    }
+
+    /// The room of a text that was let go, where it is kept.
+    #[inline(always)]
+    pub fn spare_room(&mut self) -> Option<Bytes>
+        ensures { self.new ≡ self.old }
+    {
+        self.spare.take()
     }
 
     /// How many handles have a value.

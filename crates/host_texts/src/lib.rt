@@ -12,6 +12,7 @@ mod making;
 mod name;
 mod name_calls;
 mod names;
+mod number_key;
 mod numbers;
 mod record;
 mod specials;

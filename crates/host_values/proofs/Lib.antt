@@ -13,6 +13,7 @@ pub mod Elements
 pub mod ArraySteps
 pub mod ArrayCalls
 pub mod SpentLemmas
+pub mod TwoHandles
 pub mod KeySteps
 pub mod KeyCalls
 pub mod Showing

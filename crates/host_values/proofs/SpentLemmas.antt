@@ -11,7 +11,7 @@ use Rattle.host_values.specs.Evaluations.{Values}
 use Rattle.host_values.specs.Fronts.{found, handle_front}
 use Rattle.host_values.specs.Singles.{only_by, only_end, only_handle}
 use Rattle.host_values.specs.Forms.{Arrays}
-use Rattle.host_values.specs.Reads.{array_and_two, but_value, number_front, two_handles}
+use Rattle.host_values.specs.Reads.{array_and_two, array_and_value, but_value, number_front, two_handles}
 
 same_ok : {A : Type 0} (x y : A) → ◌≡◌ {A = Result A TrapKind} (Ok x) (Ok y) → x ≡ y
 same_ok x y e = cc
@@ -71,6 +71,26 @@ two_first : (values : Values) (r : Result (ℤ × Value × List Word) TrapKind) 
     → and_then r (λ y. and_then (only_handle (map.remove values y.0) y.2) (λ z. Ok (y.0, y.1, z.0, z.1))) ≡ Ok x → FirstHeld values x
 two_first values (Ok y) x g e = first_by values y.0 y.1 (only_handle (map.remove values y.0) y.2) x (g y refl) e
 two_first values (Err k) x g e = cc
+
+abbrev OneHeld : Values → ℤ × ℤ × Value → Type 0
+OneHeld values x = map.get values x.1 ≡ Some x.2
+
+one_by : (values : Values) (a : ℤ) (r : Result (ℤ × Value) TrapKind) (x : ℤ × ℤ × Value) → ((y : ℤ × Value) → r ≡ Ok y → map.get values y.0 ≡ Some y.1)
+    → and_then r (λ y. Ok (a, y.0, y.1)) ≡ Ok x → OneHeld values x
+one_by values a (Ok y) x g e = subst (OneHeld values) (same_ok (a, y.0, y.1) x e) (g y refl)
+one_by values a (Err k) x g e = cc
+
+one_in : (values : Values) (r : Result (ℤ × List Word) TrapKind) (x : ℤ × ℤ × Value) → and_then r (λ y. and_then (only_handle values y.1) (λ z. Ok (y.0, z.0, z.1))) ≡ Ok x → OneHeld values x
+one_in values (Ok y) x e = one_by values y.0 (only_handle values y.1) x (only_held values y.1) e
+one_in values (Err k) x e = cc
+
+-- the value under the one handle
+pub one_held : (arrays : Arrays) (values : Values) (words : List Word) (x : ℤ × ℤ × Value) → array_and_value arrays values words ≡ Ok x → OneHeld values x
+one_held arrays values words x e = one_in values (number_front arrays words) x e
+
+-- the values under both handles
+pub two_held : (values : Values) (words : List Word) (x : ℤ × Value × ℤ × Value) → two_handles values words ≡ Ok x → FirstHeld values x × SecondHeld values x
+two_held values words x e = (two_first values (handle_front values words) x (front_held values words) e, two_by values (handle_front values words) x e)
 
 abbrev KeyHeld : Values → ℤ × ℤ × Value × ℤ × Value → Type 0
 KeyHeld values x = map.get values x.1 ≡ Some x.2

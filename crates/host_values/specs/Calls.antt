@@ -10,7 +10,7 @@ use Rattle.wasm_store.specs.declared.word.Word.TheVariants.{I32, I64}
 use Rattle.host_step.specs.HostState.{HostState, Names}
 use Rattle.host_step.specs.declared.refusal.Refusal.{Refusal}
 use Rattle.host_step.specs.declared.refusal.Refusal.TheVariants as refusal
-use Rattle.host_values.specs.Evaluations.{Values, left_by}
+use Rattle.host_values.specs.Evaluations.{Evaluates, Evaluation, Values, left_by}
 use Rattle.host_values.specs.declared.reply.Evaluated.{Evaluated}
 use Rattle.host_values.specs.declared.reply.Reply.{Reply}
 use Rattle.host_values.specs.declared.reply.Reply.TheVariants as reply
@@ -46,3 +46,9 @@ SettlesTo (Err f) left r after = (r ≡ Err (refusal.Fault f)) × (after ≡ lef
 abbrev pub CarriesOut : Result Evaluated Refusal → Values → Result (Option Word) Refusal → Values → Type 0
 CarriesOut (Ok e) before r after = SettlesTo e.outcome (left_by e.spent before) r after
 CarriesOut (Err x) before r after = (r ≡ Err x) × (after ≡ before)
+
+-- what a call comes to, whatever else the state is, is carried out
+pub record IsCarriedOut (e : HostState → Evaluation) (before : Values) (r : Result (Option Word) Refusal) (after : Values) : Type 0 where
+  pub evaluated : Result Evaluated Refusal
+  pub evaluates : (s : HostState) → Evaluates before s evaluated s (e s)
+  pub carried : CarriesOut evaluated before r after

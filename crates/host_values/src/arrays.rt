@@ -11,8 +11,7 @@ ghost use Rattle.host_arrays.specs.Pairs.{pairs_at, set_pair};
 use crate::argument_words::expect_end;
 use crate::element_keys::key_text;
 use crate::element_words::{array_and_key, array_key_value, only_array};
-use crate::reply::Reply;
-use crate::value_calls::give;
+use crate::value_calls::give_back;
 use awk_values::Value;
 use host_arrays::Arrays;
 use host_handles::Handles;
@@ -79,8 +78,7 @@ pub fn elem(
         return Err(Refusal::NoMemory);
     };
     drop(key);
-    handles.take(handle);
-    give(handles, Reply::Value(found))
+    give_back(handles, handle, found)
 }
 
 /// Puts a value at a key.
@@ -131,7 +129,10 @@ pub fn set_elem(
         unreachable!();
     };
     let text = key_text(&key);
-    put(arrays, array, text.as_slice(), value, longest)
+    let outcome = put(arrays, array, text.as_slice(), value, longest);
+    drop(text);
+    handles.let_go(key);
+    outcome
 }
 
 /// Whether an array has an element; none is made.
@@ -153,7 +154,7 @@ pub fn has(arrays: &Arrays, handles: &mut Handles, words: &[Word]) -> Result<Opt
     let key = key_text(value);
     let found = arrays.has(array, key.as_slice());
     drop(key);
-    handles.take(handle);
+    handles.spend(handle);
     Ok(Some(Word::I32(u32::from(found))))
 }
 
@@ -180,7 +181,7 @@ pub fn delete(
     let key = key_text(value);
     arrays.delete(array, key.as_slice());
     drop(key);
-    handles.take(handle);
+    handles.spend(handle);
     Ok(Some(DONE))
 }
 

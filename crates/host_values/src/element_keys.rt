@@ -8,7 +8,7 @@ use awk_values::{Bytes, Value};
 
 /// The bytes of a key: those of a text, which are lent, or the digits of a number.
 #[derive(Drop)]
-pub(crate) enum KeyText<'a> {
+pub enum KeyText<'a> {
     Lent(&'a Bytes),
     Digits(NumText),
     Empty,
@@ -17,7 +17,7 @@ pub(crate) enum KeyText<'a> {
 impl KeyText<'_> {
     /// The bytes.
     #[inline(always)]
-    pub(crate) fn as_slice(&self) -> &[u8]
+    pub fn as_slice(&self) -> &[u8]
         ensures { result.now ≡ key_bytes self.now }
     {
         match self {
@@ -30,7 +30,7 @@ impl KeyText<'_> {
 
 /// The key that a value is.
 #[inline(always)]
-pub(crate) fn key_text(value: &Value) -> KeyText<'_>
+pub fn key_text(value: &Value) -> KeyText<'_>
     ensures { key_bytes result ≡ text_of_value value.now }
 {
     match value {

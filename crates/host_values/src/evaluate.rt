@@ -1,5 +1,6 @@
 //! The imports on values: what each comes to, of the words of a call.
-ghost use Rattle.std.specs.Prelude.{◌≡◌, ◌+◌, ◌++◌, ◌≤◌, [], IfOk, OnOk, length, nat_le, true};
+ghost use Rattle.std.specs.Prelude.{◌≡◌, ◌+◌, ◌++◌, ◌≤◌, [], Err, IfOk, None, Ok, OnOk, false, length, nat_le, true};
+ghost use Rattle.std.specs.FinMap as map;
 ghost use Rattle.sem_primitives.specs.Limits.{most_text};
 ghost use Rattle.sem_primitives.specs.ValueMeaning.{within_limit};
 ghost use Rattle.std.specs.Ordering.{int_cmp};
@@ -9,15 +10,19 @@ ghost use Rattle.awk_values.specs.Values.{number_of_value, text_of_value};
 ghost use Rattle.awk_text.specs.NumberText.{InRange};
 ghost use Rattle.host_values.specs.declared.spent.Spent.{Spent};
 ghost use Rattle.host_step.specs.HostState.{HostState};
+ghost use Rattle.host_values.specs.Calls.{IsCarriedOut, reserved_handle};
 ghost use Rattle.host_values.specs.Evaluations.{Evaluates, Values};
 ghost use Rattle.host_values.specs.ValueEvaluations.{compare_evaluation, concat_evaluation, dup_evaluation, fail_evaluation, int_of_evaluation, lit_evaluation, num_evaluation, number_reply, pow_evaluation, to_num_evaluation, truth_evaluation, uninit_evaluation, value_reply};
 
 use crate::argument_words::{
     comparison_front, expect_end, fault_front, number_front, place_front, value_after, value_front,
 };
+use crate::element_keys::key_text;
+use crate::element_words::two_values;
 use crate::literals::Literals;
 use crate::reply::{Evaluated, Reply, number_reply, truth_reply};
 use crate::spent::Spent;
+use crate::value_calls::give_back;
 use awk_text::text_of;
 use awk_values::{Bytes, CompareOp, Fault, Value, compare, pow, to_number, truncated, truth};
 use host_handles::Handles;
@@ -256,14 +261,76 @@ pub fn push_text(out: &mut Vec<u8>, value: &Value) -> Result<(), AllocError>
     }
 }
 
-/// The texts of two values, one behind the other, in so much room to begin with.
-fn joined(alloc: Global, room: usize, left: &Value, right: &Value) -> Result<Bytes, AllocError>
-    ensures { IfOk result (λ text. text ≡ text_of_value left.now ++ text_of_value right.now) }
+/// A text and bytes behind it, in place where nobody else shares the text.
+#[inline(always)]
+fn longer(
+    alloc: Global,
+    handles: &mut Handles,
+    text: Bytes,
+    behind: &[u8],
+) -> Result<Bytes, AllocError>
+    ensures text { IfOk result (λ longer. longer ≡ text ++ behind.now) }
+    ensures same { handles.new ≡ handles.old }
 {
-    let mut text = Vec::with_capacity(alloc, room)?;
-    push_text(&mut text, left)?;
-    push_text(&mut text, right)?;
-    Bytes::from_vec(text)
+    let mut longer = text;
+    if longer.append(behind)? {
+        return Ok(longer);
+    }
+    Bytes::of_two(alloc, handles.spare_room(), longer.as_slice(), behind)
+}
+
+/// The text of a value and bytes behind it. Mostly the value is a text.
+#[inline(always)]
+fn with_behind(
+    alloc: Global,
+    handles: &mut Handles,
+    value: Value,
+    behind: &[u8],
+) -> Result<Bytes, AllocError>
+    ensures text { IfOk result (λ text. text ≡ text_of_value value ++ behind.now) }
+    ensures same { handles.new ≡ handles.old }
+{
+    match value {
+        Value::Text(text) | Value::StrNum(text) => longer(alloc, handles, text, behind),
+        Value::Num(_) | Value::Uninit => {
+            let front = key_text(&value);
+            Bytes::of_two(alloc, handles.spare_room(), front.as_slice(), behind)
+        }
+    }
+}
+
+/// The same where a number or nothing is behind. It stands apart, so that texts are joined with few registers.
+#[inline(never)]
+fn with_digits(
+    alloc: Global,
+    handles: &mut Handles,
+    left: Value,
+    right: &Value,
+) -> Result<Bytes, AllocError>
+    ensures text { IfOk result (λ text. text ≡ text_of_value left ++ text_of_value right.now) }
+    ensures same { handles.new ≡ handles.old }
+{
+    let behind = key_text(right);
+    with_behind(alloc, handles, left, behind.as_slice())
+}
+
+/// The texts of two values, one behind the other.
+#[inline(always)]
+fn joined(
+    alloc: Global,
+    handles: &mut Handles,
+    left: Value,
+    right: &Value,
+) -> Result<Bytes, AllocError>
+    ensures text { IfOk result (λ text. text ≡ text_of_value left ++ text_of_value right.now) }
+    ensures same { handles.new ≡ handles.old }
+{
+    match right {
+        Value::Text(text) | Value::StrNum(text) => {
+            with_behind(alloc, handles, left, text.as_slice())
+        }
+        Value::Num(_) | Value::Uninit => with_digits(alloc, handles, left, right),
+    }
 }
 
 /// Whether two texts are within the limit together.
@@ -277,42 +344,48 @@ fn fits(left: usize, right: usize) -> bool
     }
 }
 
-/// The texts of two values as one, where that is within the limit.
+/// Whether the texts of two values are within the limit together.
 #[inline(always)]
-fn concatenation(
-    alloc: Global,
-    left: &Value,
-    right: &Value,
-) -> Result<Result<Reply, Fault>, AllocError>
-    ensures { IfOk result (λ outcome. outcome
-        ≡ value_reply (within_limit (text_of_value left.now ++ text_of_value right.now))) }
+fn fit_together(left: &Value, right: &Value) -> bool
+    ensures too_long { result ≡ false
+        → within_limit (text_of_value left.now ++ text_of_value right.now) ≡ Err Fault.TextLimit }
+    ensures within { result ≡ true → within_limit (text_of_value left.now ++ text_of_value right.now)
+        ≡ Ok (Value.Text (text_of_value left.now ++ text_of_value right.now)) }
 {
-    let first = text_len(left);
-    let second = text_len(right);
-    if !fits(first, second) {
-        return Ok(Err(Fault::TextLimit));
-    }
-    let text = joined(alloc, first + second, left, right)?;
-    Ok(Ok(Reply::Value(Value::Text(text))))
+    fits(text_len(left), text_len(right))
 }
 
-/// The texts of two values as one.
+/// The texts of two values as one. A text that nobody else needs grows in place.
 ///
 /// # Errors
 ///
-/// A trap, or want of memory.
+/// A trap, which changes nothing; a fault, which is to be kept; or want of memory.
 #[inline(always)]
-pub fn concat(alloc: Global, handles: &Handles, words: &[Word]) -> Result<Evaluated, Refusal>
-    ensures { (s : HostState) → Evaluates handles.now s result s
-        (concat_evaluation handles.now s words.now) }
+pub fn concat(alloc: Global, handles: &mut Handles, words: &[Word]) -> Result<Option<Word>, Refusal>
+    requires { map.get handles.old reserved_handle ≡ None }
+    ensures step { IsCarriedOut (λ s. concat_evaluation handles.old s words.now) handles.old result
+        handles.new }
+    ensures reserved { map.get handles.new reserved_handle ≡ None }
 {
-    let (first, left, behind_left) = value_front(handles, words)?;
-    let (second, right, rest) = value_after(handles, first, behind_left)?;
-    expect_end(rest)?;
-    Ok(Evaluated {
-        spent: Spent::Two(first, second),
-        outcome: concatenation(alloc, left, right)?,
-    })
+    let (first, left, second, right) = match two_values(handles, words) {
+        Ok(read) => read,
+        Err(kind) => return Err(Refusal::Trap(kind)),
+    };
+    if !fit_together(left, right) {
+        handles.spend(first);
+        handles.spend(second);
+        return Err(Refusal::Fault(Fault::TextLimit));
+    }
+    let Some(right) = handles.take(second) else {
+        unreachable!();
+    };
+    let left = handles.replace(first, Value::Uninit);
+    let Ok(text) = joined(alloc, handles, left, &right) else {
+        handles.spend(first);
+        return Err(Refusal::NoMemory);
+    };
+    drop(right);
+    give_back(handles, first, Value::Text(text))
 }
 
 /// A power as an answer. It is in range without a test.

@@ -22,6 +22,7 @@ mod value_calls;
 
 pub use argument_words::{expect_end, number_front, place_front, value_after, value_front};
 pub use arrays::{clear, delete, elem, free_array, has, new_array, set_elem};
+pub use element_keys::{KeyText, key_text};
 pub use element_words::array_front;
 pub use evaluate::{
     comparison, concat, dup, fail, int_of, lit, num, power, push_text, text_len, to_num, truth_of,

@@ -76,7 +76,7 @@ pub fn release(handles: &mut Handles, words: &[Word]) -> Result<Option<Word>, Re
 {
     match take_one(handles, words) {
         Ok(value) => {
-            drop(value);
+            handles.let_go(value);
             Ok(None)
         }
         Err(kind) => Err(Refusal::Trap(kind)),

@@ -1,5 +1,5 @@
 //! Answers: what a call spends leaves the handles, and what is new gets one.
-ghost use Rattle.std.specs.Prelude.{◌≡◌, None, Ok};
+ghost use Rattle.std.specs.Prelude.{◌≡◌, None, Ok, true};
 ghost use Rattle.std.specs.FinMap as map;
 ghost use Rattle.host_values.specs.Calls.{CarriesOut, Gives, reserved_handle};
 
@@ -24,6 +24,23 @@ pub(crate) fn give_value(handles: &mut Handles, value: Value) -> Result<Option<W
         Ok(handle) => Ok(Some(Word::I32(handle.cast_unsigned()))),
         Err(_) => Err(Refusal::NoMemory),
     }
+}
+
+/// Gives a value in the place of one that is spent.
+#[inline(always)]
+pub(crate) fn give_back(
+    handles: &mut Handles,
+    handle: i32,
+    value: Value,
+) -> Result<Option<Word>, Refusal>
+    requires there { map.contains_key handles.old handle ≡ true }
+    requires reserved { map.get handles.old reserved_handle ≡ None }
+    ensures answer { Gives (Reply.Value value) (map.remove handles.old handle) result handles.new }
+    ensures reserved { map.get handles.new reserved_handle ≡ None }
+{
+    let spent = handles.replace(handle, value);
+    handles.let_go(spent);
+    Ok(Some(Word::I32(handle.cast_unsigned())))
 }
 
 /// Gives an answer: a value under a new handle.

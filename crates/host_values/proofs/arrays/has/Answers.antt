@@ -12,8 +12,8 @@ returns-in-Err-clause-step c f memory none = has_traps (with_arrays c.args.handl
 
 pub returns-clause-step : goal.returns-clause-step
 returns-clause-step c f memory none =
-    let gone : c.take.new.self ≡ map.remove c.args.handles.now c.in-Ok.read.1 = search rules in
+    let gone : c.spend.new.self ≡ map.remove c.args.handles.now c.in-Ok.read.1 = search rules in
     has_call (with_arrays c.args.handles.now c.args.arrays.now f) c.args.words.now memory none _ _ _ (sym c.in-Ok.ensures.value) c.in-Ok.ensures.there _ _ _ gone (c.as_slice.ensures ∙ c.key_text-key.ensures) (search rules)
 
 pub returns-clause-reserved : goal.returns-clause-reserved
-returns-clause-reserved c free = ap (λ m. map.get m reserved_handle) c.take.ensures.rest ∙ reserved_removed c.args.handles.now _ free
+returns-clause-reserved c free = ap (λ m. map.get m reserved_handle) c.spend.ensures ∙ reserved_removed c.args.handles.now _ free

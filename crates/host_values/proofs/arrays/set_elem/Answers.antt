@@ -38,9 +38,9 @@ returns-clause-step c f memory none =
     let first : map.get c.args.handles.now c.in-Ok.read.1 ≡ Some c.in-Some.key = search rules in
     let held : map.get c.take.new.self c.in-Ok.read.3 ≡ Some c.in-Some-take.value = search rules in
     let key = same_some _ _ (sym first ∙ key_held c.args.arrays.now c.args.handles.now c.args.words.now _ w.1) in
-    let put : IsPut c.put.result (map.insert c.args.arrays.now c.in-Ok.read.0 (set_pair c.as_slice.result.now c.in-Some-take.value (pairs_at c.args.arrays.now c.in-Ok.read.0))) c.put.new.arrays = search rules in
-    set_call (with_arrays c.args.handles.now c.args.arrays.now f) c.args.words.now memory none _ _ _ _ w.0 w.1 c.in-Ok.ensures.there _ _ _ _ c.put.result (left ∙ ap (λ m. map.remove m c.in-Ok.read.3) gone) (c.as_slice.ensures ∙ c.key_text-text.ensures ∙ ap text_of_value key)
+    let put : IsPut c.put-outcome.result (map.insert c.args.arrays.now c.in-Ok.read.0 (set_pair c.as_slice.result.now c.in-Some-take.value (pairs_at c.args.arrays.now c.in-Ok.read.0))) c.put-outcome.new.arrays = search rules in
+    set_call (with_arrays c.args.handles.now c.args.arrays.now f) c.args.words.now memory none _ _ _ _ w.0 w.1 c.in-Ok.ensures.there _ _ _ _ c.put-outcome.result (c.let_go.ensures ∙ left ∙ ap (λ m. map.remove m c.in-Ok.read.3) gone) (c.as_slice.ensures ∙ c.key_text-text.ensures ∙ ap text_of_value key)
     (same_some _ _ (sym held ∙ ap (λ m. map.get m c.in-Ok.read.3) gone ∙ value_held c.args.arrays.now c.args.handles.now c.args.words.now _ w.1)) put
 
 pub returns-clause-reserved : goal.returns-clause-reserved
-returns-clause-reserved c free = ap (λ m. map.get m reserved_handle) c.take-2.ensures.rest ∙ reserved_removed c.take.new.self _ (ap (λ m. map.get m reserved_handle) c.take.ensures.rest ∙ reserved_removed c.args.handles.now _ free)
+returns-clause-reserved c free = ap (λ m. map.get m reserved_handle) (c.let_go.ensures ∙ c.take-2.ensures.rest) ∙ reserved_removed c.take.new.self _ (ap (λ m. map.get m reserved_handle) c.take.ensures.rest ∙ reserved_removed c.args.handles.now _ free)

@@ -1,4 +1,4 @@
-use Rattle.std.proofs.Common.{Ok, Err, refl}
+use Rattle.std.proofs.Common.{refl}
 use Rattle.sem_primitives.specs.declared.table.Primitive.TheVariants as row
 use Rattle.host_imports.specs.declared.import.Import.TheVariants.{OfPrimitive}
 use Rattle.host_values.specs.ValueEvaluations.{concat_evaluation}
@@ -10,24 +10,17 @@ use Rattle.host_calls.proofs.Comes.{none_kept, settled_means}
 use Rattle.host_calls.proofs.Gaves.{gave_none}
 use Rattle.host_calls.proofs.host.Host.on_concat.Goals as goal
 
-pub returns-in-Ok : goal.returns-in-Ok
-returns-in-Ok g c memory =
-    let host = c.args.self.now in
-    let t = host.tables in
-    settled_means g.W.World.is_modelled (Gave g.W.World.did c.args.self.now c.settle.new.self)
-    (gave_none g.W.World.did c.args.self.now c.settle.new.self c.settle.ensures.world c.settle.ensures.input) (OfPrimitive row.Concat) c.args.words.now memory t t.texts host.input (g.W.World.state host.world)
-    (Ok c.in-Ok.evaluated) concat_evaluation
-    (none_kept (OfPrimitive row.Concat) t.fault refl c.requires)
-    (λ s. concat_comes s t.handles c.args.words.now memory) (λ s. c.in-Ok.ensures (holding t.texts s))
-    c.settle.result (host_form g.W.World.state c.settle.new.self) c.settle.ensures.settled
+pub concat-outcome-requires : goal.concat-outcome-requires
+concat-outcome-requires g c = c.args.self.now.tables.free_handle
 
-pub returns-in-Err : goal.returns-in-Err
-returns-in-Err g c memory =
+pub returns : goal.returns
+returns g c memory =
     let host = c.args.self.now in
     let t = host.tables in
+    let step = c.concat-outcome.ensures.step in
     settled_means g.W.World.is_modelled (Gave g.W.World.did c.args.self.now c.tell.new.self)
     (gave_none g.W.World.did c.args.self.now c.tell.new.self c.tell.ensures.world c.tell.ensures.input) (OfPrimitive row.Concat) c.args.words.now memory t t.texts host.input (g.W.World.state host.world)
-    (Err c.in-Err.refusal) concat_evaluation
+    step.evaluated concat_evaluation
     (none_kept (OfPrimitive row.Concat) t.fault refl c.requires)
-    (λ s. concat_comes s t.handles c.args.words.now memory) (λ s. c.in-Err.ensures (holding t.texts s))
-    c.tell.result (host_form g.W.World.state c.tell.new.self) (Err c.in-Err.refusal, t.handles, (refl, refl), c.tell.ensures.told, c.tell.ensures.kept)
+    (λ s. concat_comes s t.handles c.args.words.now memory) (λ s. step.evaluates (holding t.texts s))
+    c.tell.result (host_form g.W.World.state c.tell.new.self) (c.concat-outcome.result, c.concat-outcome.new.handles, step.carried, c.tell.ensures.told, c.tell.ensures.kept)
