@@ -43,6 +43,16 @@ fn slot_of(handle: i32) -> Option<usize>
     Some(handle as usize)
 }
 
+/// Makes room for one more value, where there is none.
+#[cold]
+#[inline(never)]
+fn grow(slab: &mut Slab<Value>) -> Result<(), AllocError>
+    ensures room { OnOk result (HasRoomFor slab.new 1) }
+    ensures same { slab.new ≡ record slab.old { capacity = slab.new.capacity } }
+{
+    slab.reserve(1)
+}
+
 /// Makes room for one more value. Mostly there is some.
 #[inline(always)]
 fn make_room(slab: &mut Slab<Value>) -> Result<(), AllocError>
@@ -52,7 +62,7 @@ fn make_room(slab: &mut Slab<Value>) -> Result<(), AllocError>
     if slab.len() < slab.capacity() {
         return Ok(());
     }
-    slab.reserve(1)
+    grow(slab)
 }
 
 impl Handles {
