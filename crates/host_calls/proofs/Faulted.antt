@@ -1,6 +1,5 @@
 -- At a fault a read tells the tables as they were before it, but for what it spends. A host that keeps the fault looks at nothing else any more.
 use Rattle.std.proofs.Common.{◌≡◌, ℕ, List, [], ◌++◌, Option, Some, None, Result, Ok, Err, refl, sym, subst}
-use Rattle.awk_values.specs.declared.fault.Fault.{Fault}
 use Rattle.wasm_model.specs.declared.host.HostAnswer.{HostAnswer}
 use Rattle.wasm_model.specs.declared.host.HostAnswer.TheVariants as told
 use Rattle.wasm_store.specs.declared.word.Word.{Word}

@@ -1,6 +1,5 @@
 -- Where a call writes, what is left of the main input stays as it was; in a world that is not modelled, nobody sees whether it does.
 use Rattle.std.proofs.Common.{◌≡◌, ℕ, List, ◌++◌, Option, Some, None, Result, Ok, Err, refl, sym, subst}
-use Rattle.awk_values.specs.declared.fault.Fault.{Fault}
 use Rattle.sem_primitives.specs.SharedState.{MainInput}
 use Rattle.wasm_model.specs.declared.host.HostAnswer.{HostAnswer}
 use Rattle.wasm_model.specs.declared.host.HostAnswer.TheVariants as told

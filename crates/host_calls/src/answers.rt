@@ -11,24 +11,26 @@ use crate::host::Host;
 use host_imports::Import;
 use host_tables::{refusal, told};
 use host_values::{Evaluated, Refusal, carry_out};
-use wasm_model::HostAnswer;
+use wasm_model::{BriefAnswer, HostAnswer};
 use wasm_store::{Memory, TrapKind, Word};
 use world_core::World;
 
 /// What is answered to a number that no import has.
+#[cold]
 #[inline(never)]
-fn unknown() -> HostAnswer
+fn unknown() -> BriefAnswer
     ensures { result ≡ HostAnswer.Trap TrapKind.BadArgument }
 {
-    HostAnswer::Trap(TrapKind::BadArgument)
+    BriefAnswer::of(HostAnswer::Trap(TrapKind::BadArgument))
 }
 
 /// What is answered once a fault is kept. It stands apart, so that the ways of the other calls hand their answers on as they are.
+#[cold]
 #[inline(never)]
-fn refused(import: Import) -> HostAnswer
+fn refused(import: Import) -> BriefAnswer
     ensures { result ≡ HostAnswer.Done (refusal (import_answer import)) }
 {
-    HostAnswer::Done(refusal(import.answer()))
+    BriefAnswer::of(HostAnswer::Done(refusal(import.answer())))
 }
 
 impl<W: World> Host<W> {
@@ -38,7 +40,7 @@ impl<W: World> Host<W> {
         &mut self,
         import: Import,
         outcome: Result<Option<Word>, Refusal>,
-    ) -> HostAnswer
+    ) -> BriefAnswer
         ensures told { result ≡ told_as import outcome }
         ensures kept { host_form W.state self.new
             ≡ left_by_call outcome (host_form W.state self.old) }
@@ -46,12 +48,12 @@ impl<W: World> Host<W> {
         ensures input { self.new.input ≡ self.old.input }
     {
         self.tables.keep(outcome);
-        told(import, outcome)
+        BriefAnswer::of(told(import, outcome))
     }
 
     /// Carries out what a call came to, and tells it.
     #[inline(always)]
-    pub(crate) fn settle(&mut self, import: Import, evaluated: Evaluated) -> HostAnswer
+    pub(crate) fn settle(&mut self, import: Import, evaluated: Evaluated) -> BriefAnswer
         ensures settled { Settles W.state import (Ok evaluated) self.old result self.new }
         ensures world { self.new.world ≡ self.old.world }
         ensures input { self.new.input ≡ self.old.input }
@@ -62,8 +64,9 @@ impl<W: World> Host<W> {
 
     /// Answers a call once a fault is kept: every import but those that let something go only refuses. It stands apart, so that the other calls look at
     /// nothing but whether a fault is kept.
+    #[cold]
     #[inline(never)]
-    fn answer_faulted(&mut self, words: &[Word], number: u32) -> HostAnswer
+    fn answer_faulted(&mut self, words: &[Word], number: u32) -> BriefAnswer
         requires { IsSome self.old.tables.fault }
         ensures { (memory : List ℕ) → MeansAt W.is_modelled W.state W.did number self.old words.now
             memory result self.new }
@@ -80,10 +83,10 @@ impl<W: World> Host<W> {
     }
 
     /// Answers a call of the import that has the number in `IMPORTS`. Once a fault is kept every import but those that let something go only refuses. It is inlined
-    /// into the machine's loop, where an answer is not copied, and goes by the number, since to find the import first takes longer. The words come first, so that
-    /// they stand where each import takes them.
+    /// into the machine's loop, and goes by the number, since to find the import first takes longer. The words come first, so that they stand where each import
+    /// takes them.
     #[inline(always)]
-    pub(crate) fn answer(&mut self, words: &[Word], memory: &Memory, number: u32) -> HostAnswer
+    pub(crate) fn answer(&mut self, words: &[Word], memory: &Memory, number: u32) -> BriefAnswer
         ensures { MeansAt W.is_modelled W.state W.did number self.old words.now memory.now.bytes
             result self.new }
     {

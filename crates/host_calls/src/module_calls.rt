@@ -2,7 +2,7 @@
 ghost use Rattle.std.specs.Prelude.{◌≡◌};
 
 use crate::host::Host;
-use wasm_model::{HostAnswer, HostCalls};
+use wasm_model::{BriefAnswer, HostAnswer, HostCalls};
 use wasm_store::{Memory, Word};
 use wasm_types::FuncType;
 use world_core::World;
@@ -31,9 +31,13 @@ impl<W: World> HostCalls for Host<W> {
         self.links.find(from, name)
     }
 
-    // In the machine's loop, so that the answer is not copied on the way.
     #[inline(always)]
     fn call(&mut self, import: u32, args: &[Word], memory: &mut Memory) -> HostAnswer {
+        self.answer(args, memory, import).answer()
+    }
+
+    #[inline(always)]
+    fn ask(&mut self, import: u32, args: &[Word], memory: &mut Memory) -> BriefAnswer {
         self.answer(args, memory, import)
     }
 

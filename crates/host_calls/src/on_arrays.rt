@@ -8,14 +8,14 @@ ghost use Rattle.host_calls.specs.Calls.{Means};
 use crate::host::Host;
 use host_imports::Import;
 use sem_primitives::Primitive;
-use wasm_model::HostAnswer;
+use wasm_model::BriefAnswer;
 use wasm_store::Word;
 use world_core::World;
 
 impl<W: World> Host<W> {
     /// The value of an element.
     #[inline(never)]
-    pub(crate) fn on_elem(&mut self, words: &[Word]) -> HostAnswer
+    pub(crate) fn on_elem(&mut self, words: &[Word]) -> BriefAnswer
         requires { refuses (OfPrimitive row.Elem) self.old.tables.fault ≡ false }
         ensures { (memory : List ℕ) → Means W.is_modelled W.state W.did (OfPrimitive row.Elem)
             self.old words.now memory result self.new }
@@ -26,7 +26,7 @@ impl<W: World> Host<W> {
 
     /// An element gets a value.
     #[inline(never)]
-    pub(crate) fn on_set_elem(&mut self, words: &[Word]) -> HostAnswer
+    pub(crate) fn on_set_elem(&mut self, words: &[Word]) -> BriefAnswer
         requires { refuses (OfPrimitive row.SetElem) self.old.tables.fault ≡ false }
         ensures { (memory : List ℕ) → Means W.is_modelled W.state W.did (OfPrimitive row.SetElem)
             self.old words.now memory result self.new }
@@ -37,7 +37,7 @@ impl<W: World> Host<W> {
 
     /// Whether there is an element.
     #[inline(never)]
-    pub(crate) fn on_has(&mut self, words: &[Word]) -> HostAnswer
+    pub(crate) fn on_has(&mut self, words: &[Word]) -> BriefAnswer
         requires { refuses (OfPrimitive row.Has) self.old.tables.fault ≡ false }
         ensures { (memory : List ℕ) → Means W.is_modelled W.state W.did (OfPrimitive row.Has)
             self.old words.now memory result self.new }
@@ -48,7 +48,7 @@ impl<W: World> Host<W> {
 
     /// An array without an element.
     #[inline(never)]
-    pub(crate) fn on_new_array(&mut self, words: &[Word]) -> HostAnswer
+    pub(crate) fn on_new_array(&mut self, words: &[Word]) -> BriefAnswer
         requires { refuses (OfPrimitive row.NewArray) self.old.tables.fault ≡ false }
         ensures { (memory : List ℕ) → Means W.is_modelled W.state W.did (OfPrimitive row.NewArray)
             self.old words.now memory result self.new }
@@ -59,7 +59,7 @@ impl<W: World> Host<W> {
 
     /// An element is taken away, where there is one.
     #[inline(never)]
-    pub(crate) fn on_delete(&mut self, words: &[Word]) -> HostAnswer
+    pub(crate) fn on_delete(&mut self, words: &[Word]) -> BriefAnswer
         requires { refuses (OfPrimitive row.Delete) self.old.tables.fault ≡ false }
         ensures { (memory : List ℕ) → Means W.is_modelled W.state W.did (OfPrimitive row.Delete)
             self.old words.now memory result self.new }
@@ -70,7 +70,7 @@ impl<W: World> Host<W> {
 
     /// All elements are taken away.
     #[inline(never)]
-    pub(crate) fn on_clear(&mut self, words: &[Word]) -> HostAnswer
+    pub(crate) fn on_clear(&mut self, words: &[Word]) -> BriefAnswer
         requires { refuses (OfPrimitive row.Clear) self.old.tables.fault ≡ false }
         ensures { (memory : List ℕ) → Means W.is_modelled W.state W.did (OfPrimitive row.Clear)
             self.old words.now memory result self.new }
@@ -81,7 +81,7 @@ impl<W: World> Host<W> {
 
     /// The keys of an array begin to be visited.
     #[inline(never)]
-    pub(crate) fn on_iter(&mut self, words: &[Word]) -> HostAnswer
+    pub(crate) fn on_iter(&mut self, words: &[Word]) -> BriefAnswer
         requires { refuses (OfPrimitive row.Iter) self.old.tables.fault ≡ false }
         ensures { (memory : List ℕ) → Means W.is_modelled W.state W.did (OfPrimitive row.Iter)
             self.old words.now memory result self.new }
@@ -92,7 +92,7 @@ impl<W: World> Host<W> {
 
     /// The next key of an iterator.
     #[inline(never)]
-    pub(crate) fn on_iter_next(&mut self, words: &[Word]) -> HostAnswer
+    pub(crate) fn on_iter_next(&mut self, words: &[Word]) -> BriefAnswer
         requires { refuses (OfPrimitive row.IterNext) self.old.tables.fault ≡ false }
         ensures { (memory : List ℕ) → Means W.is_modelled W.state W.did (OfPrimitive row.IterNext)
             self.old words.now memory result self.new }
@@ -103,7 +103,7 @@ impl<W: World> Host<W> {
 
     /// An array takes the pieces of a text.
     #[inline(never)]
-    pub(crate) fn on_split(&mut self, words: &[Word]) -> HostAnswer
+    pub(crate) fn on_split(&mut self, words: &[Word]) -> BriefAnswer
         requires { refuses (OfPrimitive row.Split) self.old.tables.fault ≡ false }
         ensures { (memory : List ℕ) → Means W.is_modelled W.state W.did (OfPrimitive row.Split)
             self.old words.now memory result self.new }
@@ -114,7 +114,7 @@ impl<W: World> Host<W> {
 
     /// An iterator is let go.
     #[inline(never)]
-    pub(crate) fn on_iter_free(&mut self, words: &[Word]) -> HostAnswer
+    pub(crate) fn on_iter_free(&mut self, words: &[Word]) -> BriefAnswer
         requires { refuses IterFree self.old.tables.fault ≡ false }
         ensures { (memory : List ℕ) → Means W.is_modelled W.state W.did IterFree self.old words.now
             memory result self.new }
@@ -125,7 +125,7 @@ impl<W: World> Host<W> {
 
     /// An array is let go.
     #[inline(never)]
-    pub(crate) fn on_free_array(&mut self, words: &[Word]) -> HostAnswer
+    pub(crate) fn on_free_array(&mut self, words: &[Word]) -> BriefAnswer
         requires { refuses FreeArray self.old.tables.fault ≡ false }
         ensures { (memory : List ℕ) → Means W.is_modelled W.state W.did FreeArray self.old words.now
             memory result self.new }

@@ -13,14 +13,14 @@ use host_texts::{
     set_special, sub, sub_result, substr_from, substr_of, upper_case,
 };
 use sem_primitives::Primitive;
-use wasm_model::HostAnswer;
+use wasm_model::BriefAnswer;
 use wasm_store::Word;
 use world_core::World;
 
 impl<W: World> Host<W> {
     /// The value of a special variable.
     #[inline(never)]
-    pub(crate) fn on_get_special(&mut self, words: &[Word]) -> HostAnswer
+    pub(crate) fn on_get_special(&mut self, words: &[Word]) -> BriefAnswer
         requires { refuses (OfPrimitive row.GetSpecial) self.old.tables.fault ≡ false }
         ensures { (memory : List ℕ) → Means W.is_modelled W.state W.did (OfPrimitive row.GetSpecial)
             self.old words.now memory result self.new }
@@ -35,7 +35,7 @@ impl<W: World> Host<W> {
 
     /// A special variable gets a value.
     #[inline(never)]
-    pub(crate) fn on_set_special(&mut self, words: &[Word]) -> HostAnswer
+    pub(crate) fn on_set_special(&mut self, words: &[Word]) -> BriefAnswer
         requires { refuses (OfPrimitive row.SetSpecial) self.old.tables.fault ≡ false }
         ensures { (memory : List ℕ) → Means W.is_modelled W.state W.did (OfPrimitive row.SetSpecial)
             self.old words.now memory result self.new }
@@ -50,7 +50,7 @@ impl<W: World> Host<W> {
 
     /// The value of a field.
     #[inline(never)]
-    pub(crate) fn on_field(&mut self, words: &[Word]) -> HostAnswer
+    pub(crate) fn on_field(&mut self, words: &[Word]) -> BriefAnswer
         requires { refuses (OfPrimitive row.Field) self.old.tables.fault ≡ false }
         ensures { (memory : List ℕ) → Means W.is_modelled W.state W.did (OfPrimitive row.Field)
             self.old words.now memory result self.new }
@@ -65,7 +65,7 @@ impl<W: World> Host<W> {
 
     /// A field gets a value.
     #[inline(never)]
-    pub(crate) fn on_set_field(&mut self, words: &[Word]) -> HostAnswer
+    pub(crate) fn on_set_field(&mut self, words: &[Word]) -> BriefAnswer
         requires { refuses (OfPrimitive row.SetField) self.old.tables.fault ≡ false }
         ensures { (memory : List ℕ) → Means W.is_modelled W.state W.did (OfPrimitive row.SetField)
             self.old words.now memory result self.new }
@@ -80,7 +80,7 @@ impl<W: World> Host<W> {
 
     /// The length of a value's text.
     #[inline(never)]
-    pub(crate) fn on_length(&mut self, words: &[Word]) -> HostAnswer
+    pub(crate) fn on_length(&mut self, words: &[Word]) -> BriefAnswer
         requires { refuses (OfPrimitive row.Length) self.old.tables.fault ≡ false }
         ensures { (memory : List ℕ) → Means W.is_modelled W.state W.did (OfPrimitive row.Length)
             self.old words.now memory result self.new }
@@ -94,7 +94,7 @@ impl<W: World> Host<W> {
 
     /// Whether an expression matches.
     #[inline(never)]
-    pub(crate) fn on_matches(&mut self, words: &[Word]) -> HostAnswer
+    pub(crate) fn on_matches(&mut self, words: &[Word]) -> BriefAnswer
         requires { refuses (OfPrimitive row.Matches) self.old.tables.fault ≡ false }
         ensures { (memory : List ℕ) → Means W.is_modelled W.state W.did (OfPrimitive row.Matches)
             self.old words.now memory result self.new }
@@ -114,7 +114,7 @@ impl<W: World> Host<W> {
 
     /// Where an expression matches first.
     #[inline(never)]
-    pub(crate) fn on_match(&mut self, words: &[Word]) -> HostAnswer
+    pub(crate) fn on_match(&mut self, words: &[Word]) -> BriefAnswer
         requires { refuses (OfPrimitive row.Match) self.old.tables.fault ≡ false }
         ensures { (memory : List ℕ) → Means W.is_modelled W.state W.did (OfPrimitive row.Match)
             self.old words.now memory result self.new }
@@ -129,7 +129,7 @@ impl<W: World> Host<W> {
 
     /// A substitution.
     #[inline(never)]
-    pub(crate) fn on_sub(&mut self, words: &[Word]) -> HostAnswer
+    pub(crate) fn on_sub(&mut self, words: &[Word]) -> BriefAnswer
         requires { refuses (OfPrimitive row.Sub) self.old.tables.fault ≡ false }
         ensures { (memory : List ℕ) → Means W.is_modelled W.state W.did (OfPrimitive row.Sub)
             self.old words.now memory result self.new }
@@ -144,7 +144,7 @@ impl<W: World> Host<W> {
 
     /// The text of the last substitution.
     #[inline(never)]
-    pub(crate) fn on_sub_result(&mut self, words: &[Word]) -> HostAnswer
+    pub(crate) fn on_sub_result(&mut self, words: &[Word]) -> BriefAnswer
         requires { refuses (OfPrimitive row.SubResult) self.old.tables.fault ≡ false }
         ensures { (memory : List ℕ) → Means W.is_modelled W.state W.did (OfPrimitive row.SubResult)
             self.old words.now memory result self.new }
@@ -159,7 +159,7 @@ impl<W: World> Host<W> {
 
     /// A part of a text.
     #[inline(never)]
-    pub(crate) fn on_substr(&mut self, words: &[Word]) -> HostAnswer
+    pub(crate) fn on_substr(&mut self, words: &[Word]) -> BriefAnswer
         requires { refuses (OfPrimitive row.Substr) self.old.tables.fault ≡ false }
         ensures { (memory : List ℕ) → Means W.is_modelled W.state W.did (OfPrimitive row.Substr)
             self.old words.now memory result self.new }
@@ -173,7 +173,7 @@ impl<W: World> Host<W> {
 
     /// The rest of a text.
     #[inline(never)]
-    pub(crate) fn on_substr_from(&mut self, words: &[Word]) -> HostAnswer
+    pub(crate) fn on_substr_from(&mut self, words: &[Word]) -> BriefAnswer
         requires { refuses (OfPrimitive row.SubstrFrom) self.old.tables.fault ≡ false }
         ensures { (memory : List ℕ) → Means W.is_modelled W.state W.did (OfPrimitive row.SubstrFrom)
             self.old words.now memory result self.new }
@@ -187,7 +187,7 @@ impl<W: World> Host<W> {
 
     /// Where a text stands in another.
     #[inline(never)]
-    pub(crate) fn on_index(&mut self, words: &[Word]) -> HostAnswer
+    pub(crate) fn on_index(&mut self, words: &[Word]) -> BriefAnswer
         requires { refuses (OfPrimitive row.Index) self.old.tables.fault ≡ false }
         ensures { (memory : List ℕ) → Means W.is_modelled W.state W.did (OfPrimitive row.Index)
             self.old words.now memory result self.new }
@@ -201,7 +201,7 @@ impl<W: World> Host<W> {
 
     /// A text in lower case.
     #[inline(never)]
-    pub(crate) fn on_lower(&mut self, words: &[Word]) -> HostAnswer
+    pub(crate) fn on_lower(&mut self, words: &[Word]) -> BriefAnswer
         requires { refuses (OfPrimitive row.Lower) self.old.tables.fault ≡ false }
         ensures { (memory : List ℕ) → Means W.is_modelled W.state W.did (OfPrimitive row.Lower)
             self.old words.now memory result self.new }
@@ -215,7 +215,7 @@ impl<W: World> Host<W> {
 
     /// A text in upper case.
     #[inline(never)]
-    pub(crate) fn on_upper(&mut self, words: &[Word]) -> HostAnswer
+    pub(crate) fn on_upper(&mut self, words: &[Word]) -> BriefAnswer
         requires { refuses (OfPrimitive row.Upper) self.old.tables.fault ≡ false }
         ensures { (memory : List ℕ) → Means W.is_modelled W.state W.did (OfPrimitive row.Upper)
             self.old words.now memory result self.new }
@@ -229,7 +229,7 @@ impl<W: World> Host<W> {
 
     /// A key of two texts.
     #[inline(never)]
-    pub(crate) fn on_join(&mut self, words: &[Word]) -> HostAnswer
+    pub(crate) fn on_join(&mut self, words: &[Word]) -> BriefAnswer
         requires { refuses (OfPrimitive row.Join) self.old.tables.fault ≡ false }
         ensures { (memory : List ℕ) → Means W.is_modelled W.state W.did (OfPrimitive row.Join)
             self.old words.now memory result self.new }
@@ -244,7 +244,7 @@ impl<W: World> Host<W> {
 
     /// The last values of the argument list make a text.
     #[inline(never)]
-    pub(crate) fn on_sprintf(&mut self, words: &[Word]) -> HostAnswer
+    pub(crate) fn on_sprintf(&mut self, words: &[Word]) -> BriefAnswer
         requires { refuses (Variadic listing.Sprintf) self.old.tables.fault ≡ false }
         ensures { (memory : List ℕ) → Means W.is_modelled W.state W.did (Variadic listing.Sprintf)
             self.old words.now memory result self.new }

@@ -10,14 +10,14 @@ use crate::host::Host;
 use host_imports::{Import, VariadicImport};
 use host_worlds::{MainRead, ReadInto};
 use sem_primitives::Primitive;
-use wasm_model::HostAnswer;
+use wasm_model::BriefAnswer;
 use wasm_store::Word;
 use world_core::World;
 
 impl<W: World> Host<W> {
     /// The next record of the main input.
     #[inline(never)]
-    pub(crate) fn on_next_main(&mut self, words: &[Word]) -> HostAnswer
+    pub(crate) fn on_next_main(&mut self, words: &[Word]) -> BriefAnswer
         requires { refuses (OfPrimitive row.NextMain) self.old.tables.fault ≡ false }
         ensures { (memory : List ℕ) → Means W.is_modelled W.state W.did (OfPrimitive row.NextMain)
             self.old words.now memory result self.new }
@@ -28,7 +28,7 @@ impl<W: World> Host<W> {
 
     /// `getline`: the next record of the main input.
     #[inline(never)]
-    pub(crate) fn on_getline(&mut self, words: &[Word]) -> HostAnswer
+    pub(crate) fn on_getline(&mut self, words: &[Word]) -> BriefAnswer
         requires { refuses (OfPrimitive row.Getline) self.old.tables.fault ≡ false }
         ensures { (memory : List ℕ) → Means W.is_modelled W.state W.did (OfPrimitive row.Getline)
             self.old words.now memory result self.new }
@@ -39,7 +39,7 @@ impl<W: World> Host<W> {
 
     /// `getline var`: the next record of the main input, for a variable.
     #[inline(never)]
-    pub(crate) fn on_getline_var(&mut self, words: &[Word]) -> HostAnswer
+    pub(crate) fn on_getline_var(&mut self, words: &[Word]) -> BriefAnswer
         requires { refuses (OfPrimitive row.GetlineVar) self.old.tables.fault ≡ false }
         ensures { (memory : List ℕ) → Means W.is_modelled W.state W.did (OfPrimitive row.GetlineVar)
             self.old words.now memory result self.new }
@@ -50,7 +50,7 @@ impl<W: World> Host<W> {
 
     /// `getline <file`: the next record of a file.
     #[inline(never)]
-    pub(crate) fn on_getline_file(&mut self, words: &[Word]) -> HostAnswer
+    pub(crate) fn on_getline_file(&mut self, words: &[Word]) -> BriefAnswer
         requires { refuses (OfPrimitive row.GetlineFile) self.old.tables.fault ≡ false }
         ensures { (memory : List ℕ) → Means W.is_modelled W.state W.did (OfPrimitive
             row.GetlineFile) self.old words.now memory result self.new }
@@ -61,7 +61,7 @@ impl<W: World> Host<W> {
 
     /// `getline var <file`: the next record of a file, for a variable.
     #[inline(never)]
-    pub(crate) fn on_getline_var_file(&mut self, words: &[Word]) -> HostAnswer
+    pub(crate) fn on_getline_var_file(&mut self, words: &[Word]) -> BriefAnswer
         requires { refuses (OfPrimitive row.GetlineVarFile) self.old.tables.fault ≡ false }
         ensures { (memory : List ℕ) → Means W.is_modelled W.state W.did (OfPrimitive
             row.GetlineVarFile) self.old words.now memory result self.new }
@@ -72,7 +72,7 @@ impl<W: World> Host<W> {
 
     /// What was read for a variable.
     #[inline(never)]
-    pub(crate) fn on_line(&mut self, words: &[Word]) -> HostAnswer
+    pub(crate) fn on_line(&mut self, words: &[Word]) -> BriefAnswer
         requires { refuses (OfPrimitive row.Line) self.old.tables.fault ≡ false }
         ensures { (memory : List ℕ) → Means W.is_modelled W.state W.did (OfPrimitive row.Line)
             self.old words.now memory result self.new }
@@ -83,7 +83,7 @@ impl<W: World> Host<W> {
 
     /// The assignments of the command line are made, up to one that the script is to make.
     #[inline(never)]
-    pub(crate) fn on_start_assign(&mut self, words: &[Word]) -> HostAnswer
+    pub(crate) fn on_start_assign(&mut self, words: &[Word]) -> BriefAnswer
         requires { refuses (OfPrimitive row.StartAssign) self.old.tables.fault ≡ false }
         ensures { (memory : List ℕ) → Means W.is_modelled W.state W.did (OfPrimitive
             row.StartAssign) self.old words.now memory result self.new }
@@ -94,7 +94,7 @@ impl<W: World> Host<W> {
 
     /// The name that the script is to assign to.
     #[inline(never)]
-    pub(crate) fn on_pending_name(&mut self, words: &[Word]) -> HostAnswer
+    pub(crate) fn on_pending_name(&mut self, words: &[Word]) -> BriefAnswer
         requires { refuses (OfPrimitive row.PendingName) self.old.tables.fault ≡ false }
         ensures { (memory : List ℕ) → Means W.is_modelled W.state W.did (OfPrimitive
             row.PendingName) self.old words.now memory result self.new }
@@ -105,7 +105,7 @@ impl<W: World> Host<W> {
 
     /// The value that the script is to assign.
     #[inline(never)]
-    pub(crate) fn on_pending_value(&mut self, words: &[Word]) -> HostAnswer
+    pub(crate) fn on_pending_value(&mut self, words: &[Word]) -> BriefAnswer
         requires { refuses (OfPrimitive row.PendingValue) self.old.tables.fault ≡ false }
         ensures { (memory : List ℕ) → Means W.is_modelled W.state W.did (OfPrimitive
             row.PendingValue) self.old words.now memory result self.new }
@@ -116,7 +116,7 @@ impl<W: World> Host<W> {
 
     /// The actions of END begin.
     #[inline(never)]
-    pub(crate) fn on_begin_end(&mut self, words: &[Word]) -> HostAnswer
+    pub(crate) fn on_begin_end(&mut self, words: &[Word]) -> BriefAnswer
         requires { refuses (OfPrimitive row.BeginEnd) self.old.tables.fault ≡ false }
         ensures { (memory : List ℕ) → Means W.is_modelled W.state W.did (OfPrimitive row.BeginEnd)
             self.old words.now memory result self.new }
@@ -127,7 +127,7 @@ impl<W: World> Host<W> {
 
     /// The file of a name is closed.
     #[inline(never)]
-    pub(crate) fn on_close(&mut self, words: &[Word]) -> HostAnswer
+    pub(crate) fn on_close(&mut self, words: &[Word]) -> BriefAnswer
         requires { refuses (OfPrimitive row.Close) self.old.tables.fault ≡ false }
         ensures { (memory : List ℕ) → Means W.is_modelled W.state W.did (OfPrimitive row.Close)
             self.old words.now memory result self.new }
@@ -138,7 +138,7 @@ impl<W: World> Host<W> {
 
     /// The rest of what the main input reads is given up.
     #[inline(never)]
-    pub(crate) fn on_next_file(&mut self, words: &[Word]) -> HostAnswer
+    pub(crate) fn on_next_file(&mut self, words: &[Word]) -> BriefAnswer
         requires { refuses (OfPrimitive row.NextFile) self.old.tables.fault ≡ false }
         ensures { (memory : List ℕ) → Means W.is_modelled W.state W.did (OfPrimitive row.NextFile)
             self.old words.now memory result self.new }
@@ -149,7 +149,7 @@ impl<W: World> Host<W> {
 
     /// What was printed to a file is out.
     #[inline(never)]
-    pub(crate) fn on_flush(&mut self, words: &[Word]) -> HostAnswer
+    pub(crate) fn on_flush(&mut self, words: &[Word]) -> BriefAnswer
         requires { refuses (OfPrimitive row.Flush) self.old.tables.fault ≡ false }
         ensures { (memory : List ℕ) → Means W.is_modelled W.state W.did (OfPrimitive row.Flush)
             self.old words.now memory result self.new }
@@ -160,7 +160,7 @@ impl<W: World> Host<W> {
 
     /// A name of the script is announced.
     #[inline(never)]
-    pub(crate) fn on_declare(&mut self, words: &[Word], memory: &[u8]) -> HostAnswer
+    pub(crate) fn on_declare(&mut self, words: &[Word], memory: &[u8]) -> BriefAnswer
         requires { refuses (OfPrimitive row.Declare) self.old.tables.fault ≡ false }
         ensures { Means W.is_modelled W.state W.did (OfPrimitive row.Declare) self.old words.now
             memory.now result self.new }
@@ -171,7 +171,7 @@ impl<W: World> Host<W> {
 
     /// Values are printed.
     #[inline(never)]
-    pub(crate) fn on_print(&mut self, words: &[Word]) -> HostAnswer
+    pub(crate) fn on_print(&mut self, words: &[Word]) -> BriefAnswer
         requires { refuses (Variadic listing.Print) self.old.tables.fault ≡ false }
         ensures { (memory : List ℕ) → Means W.is_modelled W.state W.did (Variadic listing.Print)
             self.old words.now memory result self.new }
@@ -182,7 +182,7 @@ impl<W: World> Host<W> {
 
     /// Values are printed by a format.
     #[inline(never)]
-    pub(crate) fn on_printf(&mut self, words: &[Word]) -> HostAnswer
+    pub(crate) fn on_printf(&mut self, words: &[Word]) -> BriefAnswer
         requires { refuses (Variadic listing.Printf) self.old.tables.fault ≡ false }
         ensures { (memory : List ℕ) → Means W.is_modelled W.state W.did (Variadic listing.Printf)
             self.old words.now memory result self.new }

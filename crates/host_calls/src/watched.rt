@@ -1,6 +1,6 @@
 //! A host in whose runs one sees where the first fault was met.
 use crate::host::Host;
-use wasm_model::{HostAnswer, HostCalls};
+use wasm_model::{BriefAnswer, HostAnswer, HostCalls};
 use wasm_store::{Memory, Word};
 use wasm_types::FuncType;
 use world_core::World;
@@ -38,6 +38,11 @@ impl<W: World> HostCalls for Watched<W> {
     #[inline(always)]
     fn call(&mut self, import: u32, args: &[Word], memory: &mut Memory) -> HostAnswer {
         self.host.call(import, args, memory)
+    }
+
+    #[inline(always)]
+    fn ask(&mut self, import: u32, args: &[Word], memory: &mut Memory) -> BriefAnswer {
+        self.host.ask(import, args, memory)
     }
 
     ghost halts = { pauses };

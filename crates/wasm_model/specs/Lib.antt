@@ -1,6 +1,7 @@
 pub mod Frames
 pub mod Hosts
 pub mod HostAnswers
+pub mod BriefAnswers
 pub mod Links
 pub mod LinkAnswers
 pub mod Machines

@@ -6,6 +6,7 @@ ghost use Rattle.wasm_store.specs.Memories.{MemoryForm};
 ghost use Rattle.wasm_store.specs.declared.word.Word.{Word as AnyWord};
 ghost use Rattle.wasm_types.specs.Syntax.{Signature};
 
+use crate::brief::BriefAnswer;
 use wasm_store::{Memory, TrapKind, Word};
 use wasm_types::FuncType;
 
@@ -52,6 +53,14 @@ pub trait HostCalls {
     fn call(&mut self, import: u32, args: &[Word], memory: &mut Memory) -> HostAnswer
         ensures means { Answers meaning (state self.old) import args.now memory.old result
             (state self.new) memory.new };
+
+    /// The same call, whose answer is brief.
+    fn ask(&mut self, import: u32, args: &[Word], memory: &mut Memory) -> BriefAnswer
+        ensures means { Answers meaning (state self.old) import args.now memory.old result
+            (state self.new) memory.new }
+    {
+        BriefAnswer::of(self.call(import, args, memory))
+    }
 
     /// In which states a run is to pause.
     ghost halts: { State → Bool };

@@ -2,12 +2,14 @@
 #![tactic(auto)]
 
 mod access;
+mod brief;
 mod ends;
 mod fault;
 mod host;
 pub mod reduction_laws;
 
 pub use access::Access;
+pub use brief::BriefAnswer;
 pub use ends::{End, MachineEnd, RunEnd};
 pub use fault::LinkFault;
 pub use host::{HostAnswer, HostCalls};

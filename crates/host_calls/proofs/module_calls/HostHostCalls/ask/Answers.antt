@@ -1,0 +1,5 @@
+use Rattle.std.proofs.Common.{refl}
+use Rattle.host_calls.proofs.module_calls.HostHostCalls.ask.Goals as goal
+
+pub returns : goal.returns
+returns g c = let m = c.answer.ensures in record { means = (m.0, ((refl, m.2), m.1)) }
