@@ -7,7 +7,6 @@ pub mod Values
 pub mod Waiting
 pub mod Zeroing
 pub mod Asking
-pub mod Answering
 pub mod Following
 pub mod Halting
 pub mod Mapping
