@@ -38,7 +38,7 @@ returns-clause-came c = λ s.
     let g : SFits w32 c.in_ok-first.second = search rules in
     let m = c.spare_room-spare.new.self in
     subst (λ (x : Values). join_evaluation x (holding c.args.texts.now s) c.args.words.now
-        ≡ Ok (map.remove (map.remove x (to_z w32 (of_z w32 c.in_ok-first.first))) (to_z w32 (of_z w32 c.in_ok-first.second)), (holding c.args.texts.now s, c.in_ok-join_outcome.field-0))) c.spare_room-spare.ensures
+    ≡ Ok (map.remove (map.remove x (to_z w32 (of_z w32 c.in_ok-first.first))) (to_z w32 (of_z w32 c.in_ok-first.second)), (holding c.args.texts.now s, c.in_ok-join_outcome.field-0))) c.spare_room-spare.ensures
     (c.in_ok-first.ensures (comes (holding c.args.texts.now s))
     ∙ ap (λ (o : Result Reply Fault). Ok (map.remove (map.remove m c.in_ok-first.first) c.in_ok-first.second, ((holding c.args.texts.now s), o))) c.in_ok-join_outcome.ensures
     ∙ two_taken m c.in_ok-first.first c.in_ok-first.second (holding c.args.texts.now s, c.in_ok-join_outcome.field-0) f g)

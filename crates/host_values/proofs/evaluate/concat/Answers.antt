@@ -126,7 +126,7 @@ returns-clause-step c =
       evaluates = λ s. two_read both m s c.args.words.now ∙ ap (of_two both m s) (sym c.in-Ok.ensures)
           ∙ ap (λ r. Ok (left_by (Two read.0 read.2) m, (s, value_reply r))) fits
           ∙ ap (λ t. Ok (left_by (Two read.0 read.2) m, (s, Ok (reply.Value (value.Text t)))))
-              (sym (made ∙ ap (λ v. text_of_value v ++ text_of_value c.in-Some.right) front ∙ ap (λ v. text_of_value read.1.now ++ text_of_value v) right));
+          (sym (made ∙ ap (λ v. text_of_value v ++ text_of_value c.in-Some.right) front ∙ ap (λ v. text_of_value read.1.now ++ text_of_value v) right));
       carried = subst (λ x. Gives (reply.Value (value.Text c.in-Ok-joined.text)) x c.give_back.result c.give_back.new.handles)
           (ap (λ x. map.remove x read.0) kept ∙ spent_two m read.0 read.2 value.Uninit) gives;
     }
