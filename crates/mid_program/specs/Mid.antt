@@ -2,7 +2,7 @@
 -- the sort that its operation wants. A conversion belongs to the operation, by the form that is there and the sort that is wanted: no code stands for
 -- it. A name's code says whether the name is unboxed, which is where it is kept and not what it means. What is evaluated once and used later is kept
 -- (`Let`) and named by how many others were kept after it (`Bound`); its last use says that it moves what an earlier one copies.
-use Rattle.std.specs.Prelude.{ℕ, zero, suc, Bool, true, false, List, [], ◌∷◌, ℤ}
+use Rattle.std.specs.Prelude.{ℕ, zero, suc, Bool, true, false, List, [], ◌∷◌, Option, Some, None, ℤ}
 use Rattle.awk_values.specs.declared.comparison.CompareOp.{CompareOp}
 use Rattle.sem_primitives.specs.Table.{arguments_of, answer_of, listed_answer}
 use Rattle.sem_primitives.specs.declared.sorts.Sort.{Sort}
@@ -95,9 +95,11 @@ mutual
     NoStep : Steps
     Then : Step → Steps → Steps
 
+-- a global name; if it is unboxed, whether values that may be texts are copied to it
 pub record Declared : Type 0 where
   pub name : List ℕ
   pub kind : Kind
+  pub mixed : Bool
 
 -- a function: its name, what it is given, and its body
 pub record Routine : Type 0 where
@@ -175,6 +177,11 @@ form_of fs (Choose s c a b) = PrimitiveAnswer (answer.Of s)
 form_of fs (Seq a b) = form_of fs b
 form_of fs (Let a b) = form_of (form_of fs a ∷ fs) b
 form_of fs (Bound m i) = form_at fs i
+
+-- the name whose value code gives, if it does nothing else
+abbrev pub source_of : Code → Option Slot
+source_of (Get x) = Some x
+source_of e = None
 
 abbrev pub arguments : Operation → List Argument
 arguments (Host p) = arguments_of p

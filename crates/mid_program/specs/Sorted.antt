@@ -69,7 +69,6 @@ fits NumberOrText sort.Number = true
 fits (PrimitiveAnswer (answer.Of sort.Array)) sort.Array = true
 fits _ _ = false
 
--- into an unboxed name only numbers are stored, so that no conversion faults there
 abbrev pub is_number : Form → Bool
 is_number (PrimitiveAnswer (answer.Of sort.Number)) = true
 is_number (PrimitiveAnswer answer.Truth) = true
@@ -103,6 +102,8 @@ is_dropped _ = true
 pub record Context : Type 0 where
   pub texts : ℕ
   pub globals : List Kind
+  -- of each global whether values that may be texts are copied to it
+  pub mixed : List Bool
   pub arrays : ℕ
   pub ranges : ℕ
   pub calls : List (List Kind)
@@ -127,11 +128,17 @@ abbrev pub is_slot : Context → Slot → Bool
 is_slot c (Global u i) = has_kind c.globals i (scalar_kind u)
 is_slot c (Parameter u i) = has_kind c.parameters i (scalar_kind u)
 
-abbrev pub takes : Slot → Form → Bool
-takes (Global true i) f = is_number f
-takes (Global false i) f = fits f sort.Value
-takes (Parameter true i) f = is_number f
-takes (Parameter false i) f = fits f sort.Value
+abbrev pub is_mixed : List Bool → ℕ → Bool
+is_mixed [] i = false
+is_mixed (m ∷ ms) zero = m
+is_mixed (m ∷ ms) (suc i) = is_mixed ms i
+
+-- into an unboxed name numbers alone are stored, and copies where it takes them: no conversion faults there
+abbrev pub takes : Context → Slot → Form → Bool
+takes c (Global true i) f = is_number f || (is_mixed c.mixed i && fits f sort.Value)
+takes c (Global false i) f = fits f sort.Value
+takes c (Parameter true i) f = is_number f
+takes c (Parameter false i) f = fits f sort.Value
 
 abbrev pub is_array_place : Context → ArrayName → Bool
 is_array_place c (Numbered i) = nat_lt i c.arrays
@@ -268,7 +275,7 @@ module _ (c : Context) where
     sorted fs (Text i) = nat_lt i c.texts
     sorted fs Unset = true
     sorted fs (Get x) = is_slot c x
-    sorted fs (Set x e) = is_slot c x && (takes x (form_of fs e) && sorted fs e)
+    sorted fs (Set x e) = is_slot c x && (takes c x (form_of fs e) && sorted fs e)
     sorted fs (Array a) = is_array_place c a
     sorted fs (IsOpen i) = nat_lt i c.ranges
     sorted fs (Choose s e a b) = is_chosen s && (is_tested (form_of fs e)
@@ -314,6 +321,9 @@ calls_of p = map (λ (r : Routine). r.parameters) p.routines
 abbrev pub kinds_of : List Declared → List Kind
 kinds_of ds = map (λ (d : Declared). d.kind) ds
 
+abbrev pub mixed_of : List Declared → List Bool
+mixed_of ds = map (λ (d : Declared). d.mixed) ds
+
 abbrev pub is_many : Kind → Bool
 is_many ArrayKind = true
 is_many k = false
@@ -327,6 +337,7 @@ abbrev pub context_of : Program → List Kind → Context
 context_of p parameters = record {
   texts = length p.texts;
   globals = kinds_of p.globals;
+  mixed = mixed_of p.globals;
   arrays = suc
       (suc (arrays_among p.globals));
   ranges = p.ranges;

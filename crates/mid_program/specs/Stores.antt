@@ -1,9 +1,9 @@
--- What code stores into scalars, in the order of the code: where, and in which form it is there.
-use Rattle.std.specs.Prelude.{ℕ, suc, List, [], ◌∷◌, ◌++◌}
-use Rattle.mid_program.specs.Mid.{Slot, Code, Do, Over, Compare, Call, Ask, AskLine, FileLine, Replace, Number, Text, Unset, Get, Set, Array, IsOpen, Choose, Seq, Let, Bound, Codes, End, At, Fixed, Fresh, Step, Eval, Block, If, Loop, Each, Break, Continue, Next, Exit, ExitWith, Return, Mark, Steps, NoStep, Then, Form, a_value, form_of}
+-- What code stores into scalars, in the order of the code: where, of which name it is a copy, if it is one, and in which form it is there.
+use Rattle.std.specs.Prelude.{ℕ, suc, List, [], ◌∷◌, ◌++◌, Option}
+use Rattle.mid_program.specs.Mid.{Slot, Code, Do, Over, Compare, Call, Ask, AskLine, FileLine, Replace, Number, Text, Unset, Get, Set, Array, IsOpen, Choose, Seq, Let, Bound, Codes, End, At, Fixed, Fresh, Step, Eval, Block, If, Loop, Each, Break, Continue, Next, Exit, ExitWith, Return, Mark, Steps, NoStep, Then, Form, a_value, form_of, source_of}
 
 pub data Store : Type 0 where
-  Into : Slot → Form → Store
+  Into : Slot → Option Slot → Form → Store
   -- an argument: for a function, by its number, and its parameter's place
   Given : ℕ → ℕ → Form → Store
 
@@ -21,7 +21,7 @@ abbrev mutual
   stores fs (Text i) = []
   stores fs Unset = []
   stores fs (Get x) = []
-  stores fs (Set x e) = stores fs e ++ (Into x (form_of fs e) ∷ [])
+  stores fs (Set x e) = stores fs e ++ (Into x (source_of e) (form_of fs e) ∷ [])
   stores fs (Array a) = []
   stores fs (IsOpen i) = []
   stores fs (Choose s c a b) = stores fs c ++ (stores fs a ++ stores fs b)

@@ -373,7 +373,7 @@ abbrev pub kind_of : Name → Kind
 kind_of p = if p.is_array then ArrayKind else Boxed
 
 abbrev pub declared_code : Name → Declared
-declared_code p = record { name = p.name; kind = kind_of p }
+declared_code p = record { name = p.name; kind = kind_of p; mixed = false }
 
 abbrev pub routine_code : List (List ℕ) → Resolved → Function → Routine
 routine_code texts script f = record { name = f.name; parameters = map kind_of f.parameters; body = steps_code texts (scope_in script f) f.body }

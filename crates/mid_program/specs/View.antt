@@ -15,7 +15,7 @@ view_kind Unboxed = plain.Unboxed
 view_kind Array = plain.ArrayKind
 
 abbrev pub view_declared : Declared → plain.Declared
-view_declared d = record { name = d.name.items; kind = view_kind d.kind }
+view_declared d = record { name = d.name.items; kind = view_kind d.kind; mixed = d.mixed }
 
 abbrev pub view_routine : Routine → plain.Routine
 view_routine r = record { name = r.name.items; parameters = map view_kind r.parameters.items; body = view_steps r.body.items }

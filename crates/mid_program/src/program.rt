@@ -19,6 +19,8 @@ pub enum Kind {
 pub struct Declared {
     pub name: Vec<u8>,
     pub kind: Kind,
+    /// Whether values that may be texts are copied to an unboxed one.
+    pub mixed: bool,
 }
 
 /// A function.
