@@ -1,5 +1,5 @@
 -- Code whose names and operations are written anew is well sorted where the code was.
-use Rattle.std.proofs.Common.{◌≡◌, ℕ, zero, suc, Bool, true, false, T, ◌&&◌, ◌||◌, nat_le, nat_lt, List, [], ◌∷◌, ◌++◌, length, map, Option, refl, sym, ap, ap₂, ◌∙◌}
+use Rattle.std.proofs.Common.{◌≡◌, ℕ, zero, suc, Bool, true, false, T, ◌&&◌, nat_le, nat_lt, List, [], ◌∷◌, ◌++◌, length, map, Option, Some, None, refl, sym, ap, ◌∙◌}
 use Rattle.std.proofs.lemmas.Bool.{and_parts, and_from}
 use Rattle.std.proofs.lemmas.List.{length-map}
 use Rattle.sem_primitives.specs.declared.sorts.Sort.{Sort}
@@ -10,7 +10,7 @@ use Rattle.sem_primitives.specs.InTurn.{values_wanted}
 use Rattle.sem_scripts.specs.Names.{ArrayName}
 use Rattle.mid_program.specs.declared.mid.Operation.{Operation}
 use Rattle.mid_program.specs.Mid.{Kind, Boxed, Unboxed, ArrayKind, Slot, Global, Parameter, Code, Do, Over, Compare, Call, Ask, AskLine, FileLine, Replace, Number, Text, Unset, Get, Set, Array, IsOpen, Choose, Seq, Let, Bound, Codes, End, At, Fixed, Fresh, Step, Eval, Block, If, Loop, Each, Break, Continue, Next, Exit, ExitWith, Return, Mark, Steps, NoStep, Then, Form, PrimitiveAnswer, NumberOrText, OptionalNumber, a_value, read_form, slot_form, form_at, form_of, source_of, answer_by, arguments, parameters_at}
-use Rattle.mid_program.specs.Sorted.{Context, fits, is_number, is_tested, is_dropped, is_slot, takes, is_mixed, is_array_place, is_constant, fit_row, all_values, count_of, is_given, fit_call, Held, There, either_way, held_after, held_after_all, is_bound, is_well_used, keeps_well, stores_well, are_missing, sorted, all_sorted, step_sorted, steps_sorted}
+use Rattle.mid_program.specs.Sorted.{Context, fits, is_number, is_tested, is_dropped, is_slot, takes, is_array_place, is_constant, fit_row, all_values, count_of, is_given, fit_call, Held, There, either_way, held_after, held_after_all, is_bound, is_well_used, keeps_well, stores_well, are_missing, sorted, all_sorted, step_sorted, steps_sorted}
 use Rattle.mid_program.specs.Alike.{erased}
 use Rattle.mid_program.specs.Rewriting.{code_in, codes_in, step_in, steps_in}
 use Rattle.mid_program.specs.Stores.{Store, Into, Given, Every, stores, stores_in, stores_given, step_stores, steps_stores}
@@ -37,6 +37,12 @@ number_erased (PrimitiveAnswer a) = refl
 number_erased NumberOrText = refl
 number_erased OptionalNumber = refl
 
+pub number_alike : (f g : Form) → erased f ≡ erased g → is_number g ≡ is_number f
+number_alike = by_erased is_number number_erased
+
+pub value_alike : (f g : Form) → erased f ≡ erased g → fits g sort.Value ≡ fits f sort.Value
+value_alike = by_erased (λ f. fits f sort.Value) (fits_erased sort.Value)
+
 tested_erased : (f : Form) → is_tested f ≡ is_tested (erased f)
 tested_erased (PrimitiveAnswer a) = refl
 tested_erased NumberOrText = refl
@@ -53,12 +59,6 @@ given_erased Boxed NumberOrText = refl
 given_erased Unboxed NumberOrText = refl
 given_erased ArrayKind NumberOrText = refl
 given_erased k OptionalNumber = refl
-
-takes_erased : (c : Context) (x : Slot) (f : Form) → takes c x f ≡ takes c x (erased f)
-takes_erased c (Global true i) f = ap₂ (λ a b. a || (is_mixed c.mixed i && b)) (number_erased f) (fits_erased sort.Value f)
-takes_erased c (Global false i) f = fits_erased sort.Value f
-takes_erased c (Parameter true i) f = number_erased f
-takes_erased c (Parameter false i) f = fits_erased sort.Value f
 
 form_at_erased : (fs gs : List Form) → map erased fs ≡ map erased gs → (i : ℕ) → erased (form_at fs i) ≡ erased (form_at gs i)
 form_at_erased fs gs h i = erased_at fs i ∙ ap (λ (es : List Form). form_at es i) h ∙ sym (erased_at gs i)
@@ -87,6 +87,11 @@ pub record Keeps (slots : Slot → Slot) (operation : Operation → Codes → Co
   pub forms : (fs : List Form) (o : Operation) (es : Codes) → form_of fs (operation o es) ≡ PrimitiveAnswer (answer_by o)
   pub moves : (i : ℕ) (h : Held) (o : Operation) (es : Codes) → held_after i (operation o es) h ≡ held_after_all i es h
 
+-- a copy of a name has the name's form
+abbrev pub CopyOf : (slots : Slot → Slot) → Option Slot → Form → Type 0
+CopyOf slots None g = Unit {0}
+CopyOf slots (Some y) g = g ≡ slot_form (slots y)
+
 -- what may be named stays there, and may take what is stored, of which P is known; what stands for an operation is well sorted
 pub record Stays (slots : Slot → Slot) (operation : Operation → Codes → Code) (P : Store → Type 0) (c d : Context) : Type 0 where
   pub texts : c.texts ≡ d.texts
@@ -94,7 +99,7 @@ pub record Stays (slots : Slot → Slot) (operation : Operation → Codes → Co
   pub calls : length d.calls ≡ length c.calls
   pub slot : (x : Slot) → is_slot c x ≡ true → is_slot d (slots x) ≡ true
   pub array : (a : ArrayName) → is_array_place c a ≡ true → is_array_place d a ≡ true
-  pub stored : (x : Slot) (o : Option Slot) (f : Form) → takes c x f ≡ true → P (Into x o f) → takes d (slots x) f ≡ true
+  pub stored : (x : Slot) (o : Option Slot) (f g : Form) → erased f ≡ erased g → CopyOf slots o g → takes c x f ≡ true → P (Into x o f) → takes d (slots x) g ≡ true
   pub given : (f : ℕ) (fs : List Form) (es : Codes) → fit_call fs (parameters_at c.calls f) es ≡ true → Every P (stores_given f 0 fs es) → fit_call fs (parameters_at d.calls f) es ≡ true
   pub does : (fs : List Form) (o : Operation) (es : Codes) → sorted d fs (Do o es) ≡ true → sorted d fs (operation o es) ≡ true
 
@@ -125,6 +130,10 @@ module _ (slots : Slot → Slot) (operation : Operation → Codes → Code) (K :
   form_kept fs hs k (Seq a b) = form_kept fs hs k b
   form_kept fs hs k (Let a b) = form_kept (form_of fs a ∷ fs) (form_of hs (re a) ∷ hs) (λ i. form_kept fs hs k a i ∷ k i) b
   form_kept fs hs k (Bound m i) = form_at_erased fs hs k i
+
+  copied : (hs : List Form) (e : Code) → CopyOf slots (source_of e) (form_of hs (re e))
+  copied hs (Get x) = refl
+  copied hs e = tt
 
   mutual
     held_kept : (i : ℕ) (e : Code) (h : Held) → held_after i (re e) h ≡ held_after i e h
@@ -259,7 +268,7 @@ module _ (slots : Slot → Slot) (operation : Operation → Codes → Code) (K :
       sorted_kept fs hs k (Set x e) h v =
           let p = and_parts _ _ h in let q = and_parts _ _ p.1 in let w = every_parts P (stores fs e) (Into x (source_of e) (form_of fs e) ∷ []) v in
           and_from _ _ (S.slot x p.0)
-          (and_from _ _ (by_form fs hs k (takes d (slots x)) (takes_erased d (slots x)) e ∙ S.stored x (source_of e) (form_of fs e) q.0 w.1.0) (sorted_kept fs hs k e q.1 w.0))
+          (and_from _ _ (S.stored x (source_of e) (form_of fs e) (form_of hs (re e)) (form_kept fs hs k e) (copied hs e) q.0 w.1.0) (sorted_kept fs hs k e q.1 w.0))
       sorted_kept fs hs k (Array a) h v = S.array a h
       sorted_kept fs hs k (IsOpen i) h v = ap (nat_lt i) (sym S.ranges) ∙ h
       sorted_kept fs hs k (Choose s e a b) h v =

@@ -133,9 +133,14 @@ is_mixed [] i = false
 is_mixed (m ∷ ms) zero = m
 is_mixed (m ∷ ms) (suc i) = is_mixed ms i
 
--- into an unboxed name numbers alone are stored, and copies where it takes them: no conversion faults there
+-- what an unboxed name has
+abbrev pub is_pair : Form → Bool
+is_pair NumberOrText = true
+is_pair _ = false
+
+-- into an unboxed name numbers alone are stored, and copies of others where it takes them: no conversion faults there
 abbrev pub takes : Context → Slot → Form → Bool
-takes c (Global true i) f = is_number f || (is_mixed c.mixed i && fits f sort.Value)
+takes c (Global true i) f = is_number f || (is_mixed c.mixed i && is_pair f)
 takes c (Global false i) f = fits f sort.Value
 takes c (Parameter true i) f = is_number f
 takes c (Parameter false i) f = fits f sort.Value
