@@ -85,12 +85,12 @@ every_parts P (x ∷ xs) ys h = let rest = every_parts P xs ys h.1 in ((h.0, res
 pub record Keeps (slots : Slot → Slot) (operation : Operation → Codes → Code) : Type 0 where
   pub slot_forms : (x : Slot) → erased (slot_form x) ≡ erased (slot_form (slots x))
   pub forms : (fs : List Form) (o : Operation) (es : Codes) → form_of fs (operation o es) ≡ PrimitiveAnswer (answer_by o)
+  pub sources : (o : Operation) (es : Codes) → source_of (operation o es) ≡ None
   pub moves : (i : ℕ) (h : Held) (o : Operation) (es : Codes) → held_after i (operation o es) h ≡ held_after_all i es h
 
--- a copy of a name has the name's form
-abbrev pub CopyOf : (slots : Slot → Slot) → Option Slot → Form → Type 0
-CopyOf slots None g = Unit {0}
-CopyOf slots (Some y) g = g ≡ slot_form (slots y)
+abbrev pub copy_of : (slots : Slot → Slot) → Option Slot → Option Slot
+copy_of slots None = None
+copy_of slots (Some x) = Some (slots x)
 
 -- what may be named stays there, and may take what is stored, of which P is known; what stands for an operation is well sorted
 pub record Stays (slots : Slot → Slot) (operation : Operation → Codes → Code) (P : Store → Type 0) (c d : Context) : Type 0 where
@@ -99,7 +99,7 @@ pub record Stays (slots : Slot → Slot) (operation : Operation → Codes → Co
   pub calls : length d.calls ≡ length c.calls
   pub slot : (x : Slot) → is_slot c x ≡ true → is_slot d (slots x) ≡ true
   pub array : (a : ArrayName) → is_array_place c a ≡ true → is_array_place d a ≡ true
-  pub stored : (x : Slot) (o : Option Slot) (f g : Form) → erased f ≡ erased g → CopyOf slots o g → takes c x f ≡ true → P (Into x o f) → takes d (slots x) g ≡ true
+  pub stored : (x : Slot) (o : Option Slot) (f g : Form) → erased f ≡ erased g → takes c x o f ≡ true → P (Into x o f) → takes d (slots x) (copy_of slots o) g ≡ true
   pub given : (f : ℕ) (fs : List Form) (es : Codes) → fit_call fs (parameters_at c.calls f) es ≡ true → Every P (stores_given f 0 fs es) → fit_call fs (parameters_at d.calls f) es ≡ true
   pub does : (fs : List Form) (o : Operation) (es : Codes) → sorted d fs (Do o es) ≡ true → sorted d fs (operation o es) ≡ true
 
@@ -131,9 +131,10 @@ module _ (slots : Slot → Slot) (operation : Operation → Codes → Code) (K :
   form_kept fs hs k (Let a b) = form_kept (form_of fs a ∷ fs) (form_of hs (re a) ∷ hs) (λ i. form_kept fs hs k a i ∷ k i) b
   form_kept fs hs k (Bound m i) = form_at_erased fs hs k i
 
-  copied : (hs : List Form) (e : Code) → CopyOf slots (source_of e) (form_of hs (re e))
-  copied hs (Get x) = refl
-  copied hs e = tt
+  -- what stands for an operation is no copy of a name
+  source_kept : (e : Code) → copy_of slots (source_of e) ≡ source_of (re e)
+  source_kept (Do o es) = sym (K.sources o (res es))
+  source_kept e = refl
 
   mutual
     held_kept : (i : ℕ) (e : Code) (h : Held) → held_after i (re e) h ≡ held_after i e h
@@ -268,7 +269,9 @@ module _ (slots : Slot → Slot) (operation : Operation → Codes → Code) (K :
       sorted_kept fs hs k (Set x e) h v =
           let p = and_parts _ _ h in let q = and_parts _ _ p.1 in let w = every_parts P (stores fs e) (Into x (source_of e) (form_of fs e) ∷ []) v in
           and_from _ _ (S.slot x p.0)
-          (and_from _ _ (S.stored x (source_of e) (form_of fs e) (form_of hs (re e)) (form_kept fs hs k e) (copied hs e) q.0 w.1.0) (sorted_kept fs hs k e q.1 w.0))
+          (and_from _ _
+          (ap (λ o. takes d (slots x) o (form_of hs (re e))) (sym (source_kept e)) ∙ S.stored x (source_of e) (form_of fs e) (form_of hs (re e)) (form_kept fs hs k e) q.0 w.1.0)
+          (sorted_kept fs hs k e q.1 w.0))
       sorted_kept fs hs k (Array a) h v = S.array a h
       sorted_kept fs hs k (IsOpen i) h v = ap (nat_lt i) (sym S.ranges) ∙ h
       sorted_kept fs hs k (Choose s e a b) h v =

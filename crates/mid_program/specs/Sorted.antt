@@ -1,5 +1,5 @@
 -- Which mid code is well sorted. Lowering speaks of such code alone; the meaning is total.
-use Rattle.std.specs.Prelude.{ℕ, zero, suc, ◌^◌, T, Bool, true, false, not, ◌&&◌, ◌||◌, nat_le, nat_lt, if◌then◌else◌, List, [], ◌∷◌, ◌++◌, length, map, is_some, unsigned_abs}
+use Rattle.std.specs.Prelude.{ℕ, zero, suc, ◌^◌, T, Bool, true, false, not, ◌&&◌, ◌||◌, nat_le, nat_lt, if◌then◌else◌, List, [], ◌∷◌, ◌++◌, length, map, Option, Some, None, is_some, unsigned_abs}
 use Rattle.awk_text.specs.Number.{largest}
 use Rattle.sem_primitives.specs.Constants.{constant_at}
 use Rattle.sem_primitives.specs.declared.sorts.Sort.{Sort}
@@ -15,7 +15,7 @@ use Rattle.sem_primitives.specs.declared.table.Primitive.TheVariants.{IntOf, Con
 use Rattle.mid_program.specs.declared.mid.Operation.{Operation}
 use Rattle.mid_program.specs.declared.mid.Operation.TheVariants.{Host}
 use Rattle.sem_scripts.specs.Names.{ArrayName, Numbered, Given, same_name}
-use Rattle.mid_program.specs.Mid.{Kind, Boxed, Unboxed, ArrayKind, Slot, Global, Parameter, Code, Do, Over, Compare, Call, Ask, AskLine, FileLine, Replace, Number, Text, Unset, Get, Set, Array, IsOpen, Choose, Seq, Let, Bound, Codes, End, At, Fixed, Fresh, Step, Eval, Block, If, Loop, Each, Break, Continue, Next, Exit, ExitWith, Return, Mark, Steps, NoStep, Then, Declared, Routine, Program, Form, PrimitiveAnswer, NumberOrText, OptionalNumber, a_value, form_of, arguments, parameters_at}
+use Rattle.mid_program.specs.Mid.{Kind, Boxed, Unboxed, ArrayKind, Slot, Global, Parameter, Code, Do, Over, Compare, Call, Ask, AskLine, FileLine, Replace, Number, Text, Unset, Get, Set, Array, IsOpen, Choose, Seq, Let, Bound, Codes, End, At, Fixed, Fresh, Step, Eval, Block, If, Loop, Each, Break, Continue, Next, Exit, ExitWith, Return, Mark, Steps, NoStep, Then, Declared, Routine, Program, Form, PrimitiveAnswer, NumberOrText, OptionalNumber, a_value, form_of, source_of, arguments, parameters_at}
 
 -- The primitives that are operations. The others stand behind codes of their own (`Ask`, `AskLine`, `FileLine`, `Replace`, `Compare`, `Text`,
 -- `Unset`, `Each`, `Fresh`), behind conversions, or in the run of every script: so each read is followed by its line, and each array and iterator is
@@ -133,17 +133,18 @@ is_mixed [] i = false
 is_mixed (m ∷ ms) zero = m
 is_mixed (m ∷ ms) (suc i) = is_mixed ms i
 
--- what an unboxed name has
-abbrev pub is_pair : Form → Bool
-is_pair NumberOrText = true
-is_pair _ = false
+-- a copy of an unboxed name
+abbrev pub is_bare : Option Slot → Bool
+is_bare None = false
+is_bare (Some (Global u i)) = u
+is_bare (Some (Parameter u i)) = u
 
 -- into an unboxed name numbers alone are stored, and copies of others where it takes them: no conversion faults there
-abbrev pub takes : Context → Slot → Form → Bool
-takes c (Global true i) f = is_number f || (is_mixed c.mixed i && is_pair f)
-takes c (Global false i) f = fits f sort.Value
-takes c (Parameter true i) f = is_number f
-takes c (Parameter false i) f = fits f sort.Value
+abbrev pub takes : Context → Slot → Option Slot → Form → Bool
+takes c (Global true i) o f = is_number f || (is_mixed c.mixed i && is_bare o)
+takes c (Global false i) o f = fits f sort.Value
+takes c (Parameter true i) o f = is_number f
+takes c (Parameter false i) o f = fits f sort.Value
 
 abbrev pub is_array_place : Context → ArrayName → Bool
 is_array_place c (Numbered i) = nat_lt i c.arrays
@@ -280,7 +281,7 @@ module _ (c : Context) where
     sorted fs (Text i) = nat_lt i c.texts
     sorted fs Unset = true
     sorted fs (Get x) = is_slot c x
-    sorted fs (Set x e) = is_slot c x && (takes c x (form_of fs e) && sorted fs e)
+    sorted fs (Set x e) = is_slot c x && (takes c x (source_of e) (form_of fs e) && sorted fs e)
     sorted fs (Array a) = is_array_place c a
     sorted fs (IsOpen i) = nat_lt i c.ranges
     sorted fs (Choose s e a b) = is_chosen s && (is_tested (form_of fs e)
