@@ -297,7 +297,7 @@ module _ (p : Program) (deepest : Observer) (b : Bases) (K : List Label) (L : Li
         goes = then_goes
             (then_goes (goes_to (called (OfPrimitive row.Uninit) [] [] (store_of g σ.shared) (Some (Held Uninit)) (host_with sh1) refl refl refl) (ap (λ z. at [] (Held Uninit ∷ []) K L [] (instruction (GlobalSet (handle_global p.ranges i)) (names_made (layout_of p b) (suc i) ks k)) (store_of g z)) same))
             (global_set_ok p.ranges nn g (Hand i) (Held Uninit) (within_names Boxed ks i a g σ.shared h) (ap is_owned (h.todo i (omega arith)))
-            (boxed_comes p.ranges kinds None i (g.hand i) (Held Uninit) (no_number Boxed ks i a g σ.shared h refl)))) r.goes;
+            (boxed_comes p.ranges p.globals None i (g.hand i) (Held Uninit) (no_number Boxed ks i a g σ.shared h refl)))) r.goes;
         means = r.means;
         each = r.each;
         names = r.names;
@@ -320,7 +320,7 @@ module _ (p : Program) (deepest : Observer) (b : Bases) (K : List Label) (L : Li
         goes = then_goes
             (then_goes (called (OfPrimitive row.NewArray) [] [] (store_of g σ.shared) (Some (OwnedArray m)) (host_with sh1) refl refl refl)
             (global_set_ok p.ranges nn g (Hand i) (OwnedArray m) (within_names ArrayKind ks i a g σ.shared h) (ap is_owned (h.todo i (omega arith)))
-            (boxed_comes p.ranges kinds None i (g.hand i) (OwnedArray m) (no_number ArrayKind ks i a g σ.shared h refl)))) r.goes;
+            (boxed_comes p.ranges p.globals None i (g.hand i) (OwnedArray m) (no_number ArrayKind ks i a g σ.shared h refl)))) r.goes;
         means = r.means;
         each = r.each;
         names = r.names;

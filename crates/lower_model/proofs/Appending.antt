@@ -176,7 +176,7 @@ module _ (p : Program) (deepest : Observer) (ks : List Kind) (F : List Frame) (b
         there (machine p deepest ks F) M 8 (3 + (2 + 1)) _ _ z σ (Appended i u k K l) (Away p deepest ks F b d K)
         (then_goes (value_kept b l 0 d z roomy (ap is_owned (ft.free 0 (omega arith))))
         (then_goes (moved_out_ok b l1 (Hand 0) (Held z) roomy (upd_same l.hand 0 (Held z)))
-        (goes_to (global_set_ok p.ranges names g1 (NameHand i) (Held z) li (ap is_owned (has_global_with p.ranges names g (NameHand i) Gone)) (comes_back p.ranges kinds None g (NameHand i) (Held z)))
+        (goes_to (global_set_ok p.ranges names g1 (NameHand i) (Held z) li (ap is_owned (has_global_with p.ranges names g (NameHand i) Gone)) (comes_back p.ranges names _ None g (NameHand i) (Held z)))
         (ap (λ m. at ks [] K (laid b l2) F k (storing m (host_of σ None))) (placed_twice p.ranges names g (NameHand i) Gone (Held z) li ∙ boxed_written p deepest ks F b M n i z (with_global i v σ) ft.sound.names hk)))))
         (omega arith)
         (record {

@@ -5,7 +5,7 @@ use Rattle.std.proofs.lemmas.Bool.{and_parts}
 use Rattle.sem_primitives.specs.declared.table.Primitive.TheVariants as row
 use Rattle.wasm_types.specs.Syntax.{Instructions}
 use Rattle.mid_program.specs.declared.mid.Operation.TheVariants.{Host}
-use Rattle.mid_program.specs.Mid.{Slot, Global, Code, Do, Get, Set, End, At, arguments, form_of}
+use Rattle.mid_program.specs.Mid.{Slot, Global, Code, Do, Get, Set, End, At, arguments, form_of, source_of}
 use Rattle.mid_program.specs.Sorted.{Context, all_sorted, fit_row, is_done_here, is_slot, sorted, takes}
 use Rattle.lower_model.specs.Appends.{Append, append_in, append_of, is_chain, is_name, is_still, same_slot}
 use Rattle.lower_model.specs.Emission.{Layout}
@@ -66,5 +66,5 @@ pub chain_sorted : (c : Context) (i : ℕ) (e : Code) → sorted c [] (Set (Glob
 unfolding sorted
 chain_sorted c i e s =
     let x = Global false i in
-    let s1 = and_parts (is_slot c x) (takes x (form_of [] e) && sorted c [] e) s in
-    (s1.0, (and_parts (takes x (form_of [] e)) (sorted c [] e) s1.1).1)
+    let s1 = and_parts (is_slot c x) (takes c x (source_of e) (form_of [] e) && sorted c [] e) s in
+    (s1.0, (and_parts (takes c x (source_of e) (form_of [] e)) (sorted c [] e) s1.1).1)

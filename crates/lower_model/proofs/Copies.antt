@@ -89,7 +89,7 @@ module _ (p : Program) (deepest : Observer) (ks : List Kind) (F : List Frame) (b
       then_goes (global_moved p.ranges nn g P (Held v) pp e)
       (then_goes (tee_ok b l (Hand t) (Held v) lt o)
       (then_goes (dup_ok (handle_local b t) (laid b l1) (placed p.ranges nn g1) v σ (laid_at b l1 (Hand t) lt ∙ has_with l (Hand t) (Held v)))
-      (goes_to (global_set_ok p.ranges nn g1 P (Held v) pp (ap is_owned (has_global_with p.ranges nn g P Gone)) (comes_back p.ranges (kinds_of p.globals) None g P (Held v)))
+      (goes_to (global_set_ok p.ranges nn g1 P (Held v) pp (ap is_owned (has_global_with p.ranges nn g P Gone)) (comes_back p.ranges nn _ None g P (Held v)))
       (ap (λ m. at ks [] K (laid b l1) F k (storing m (host_of σ None))) (placed_twice p.ranges nn g P Gone (Held v) pp ∙ placed_again p.ranges nn g P (Held v) pp e)))))
 
   -- The same where there may be no handle.
@@ -113,7 +113,7 @@ module _ (p : Program) (deepest : Observer) (ks : List Kind) (F : List Frame) (b
       (then_goes (goes_to (tee_ok b l2 (Hand t) (Held v) lt (ap is_owned (has_with l1 (Hand t) Gone)))
       (ap (λ L. Look (handle_local b t) ks [] (label [] None k ∷ K) L F (ask_row row.Dup (emit (GlobalSet x) Done)) (storing (placed p.ranges nn g1) (host_of σ None))) (laid_twice b l1 (Hand t) Gone (Held v) lt ∙ laid_again b l1 (Hand t) (Held v) lt (has_with l (Hand t) (Held v)))))
       (then_goes (dup_ok (handle_local b t) (laid b l1) (placed p.ranges nn g1) v σ e1)
-      (then_goes (goes_to (global_set_ok p.ranges nn g1 P (Held v) pp (ap is_owned (has_global_with p.ranges nn g P Gone)) (comes_back p.ranges (kinds_of p.globals) None g P (Held v)))
+      (then_goes (goes_to (global_set_ok p.ranges nn g1 P (Held v) pp (ap is_owned (has_global_with p.ranges nn g P Gone)) (comes_back p.ranges nn _ None g P (Held v)))
       (ap (λ m. at ks [] (label [] None k ∷ K) (laid b l1) F Done (storing m (host_of σ None))) (placed_twice p.ranges nn g P Gone (Held v) pp ∙ placed_again p.ranges nn g P (Held v) pp e)))
       closes)))))))
 

@@ -17,7 +17,7 @@ use Rattle.lower_model.proofs.Reading.{get_global, get_parameter, moves_expr, co
 use Rattle.lower_model.proofs.Keeping.{seq_expr, let_expr}
 use Rattle.lower_model.proofs.Choosing.{choose_expr}
 use Rattle.lower_model.proofs.Lists.{over_expr}
-use Rattle.lower_model.proofs.SettingNames.{set_expr}
+use Rattle.lower_model.proofs.CopiedNames.{set_expr}
 use Rattle.lower_model.proofs.Immediates.{compare_expr}
 use Rattle.lower_model.proofs.Adding.{inline_expr}
 use Rattle.lower_model.proofs.FileLines.{file_line_expr}

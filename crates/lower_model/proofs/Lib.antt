@@ -22,6 +22,7 @@ pub mod Fields
 pub mod Leaves
 pub mod Keeping
 pub mod Copies
+pub mod CopiedNames
 pub mod Reading
 pub mod Choosing
 pub mod Making

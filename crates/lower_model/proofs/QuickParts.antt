@@ -204,7 +204,7 @@ module _ (p : Program) (deepest : Observer) (ks : List Kind) (F : List Frame) (b
       let fx = fits_sort (form_of fs x) sort.Number in
       let fy = fits_sort (form_of fs y) sort.Number in
       let body = (fx && (fy && true)) && (sorted ctx fs x && (sorted ctx fs y && true)) in
-      let tk = takes (holder_slot i) (form_of fs (Do (Inline o) (At x (At y End)))) in
+      let tk = takes ctx (holder_slot i) None (form_of fs (Do (Inline o) (At x (At y End)))) in
       let s = and_parts (is_slot ctx (holder_slot i)) (tk && body) so in
       let s0 = and_parts tk body s.1 in
       let s1 = and_parts (fx && (fy && true)) (sorted ctx fs x && (sorted ctx fs y && true)) s0.1 in

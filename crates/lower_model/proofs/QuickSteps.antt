@@ -549,7 +549,7 @@ module _ (p : Program) (deepest : Observer) (ks : List Kind) (F : List Frame) (b
       let t3 = and_parts (sorted ctx fs z) true t2.1 in
       let gs = a_number ∷ fs in
       let own = is_slot ctx (holder_slot i) in
-      let tk = takes (holder_slot i) (form_of gs (Bound true zero)) && sorted ctx gs (Bound true zero) in
+      let tk = takes ctx (holder_slot i) None (form_of gs (Bound true zero)) && sorted ctx gs (Bound true zero) in
       let w = and_parts (own && tk) (sorted ctx gs (Bound true (suc zero))) t1.1 in
       record { kind = slot_fits p deepest ks F b M n i (and_parts own tk w.0).0; first_one = s3.0; second = t3.0; fits_second = (and_parts (fits_sort (form_of fs z) sort.Number) true t2.0).0 }
 

@@ -79,11 +79,11 @@ module _ (p : Program) (deepest : Observer) (ks : List Kind) (F : List Frame) (b
   abbrev pub Puts : (o : Bool) (t : ℕ) (l : Locals) (put : Simple) (gs : List Cell) (σ : State) (L1 : Value → List Cell) (G1 : Value → Store) → Type 0
   Puts o t l put gs σ L1 G1 = (v : Value) (K : List Label) (k : Instructions) → Goes (machine p deepest ks F) 1 (at ks (Held v ∷ []) K (laid b (handed o t l)) F (emit put k) (storing gs (host_of σ None))) (at ks [] K (L1 v) F k (G1 v))
 
-  abbrev hand_work : Bool → ℕ
+  abbrev pub hand_work : Bool → ℕ
   hand_work true = 3
   hand_work false = 4
 
-  hand_stored : (o : Bool) (t : ℕ) (l : Locals) (put : Simple) (gs : List Cell) (σ : State) (L1 : Value → List Cell) (G1 : Value → Store) → t < b.temporaries → Puts o t l put gs σ L1 G1 → (v : Value) (K : List Label) (k : Instructions) → l.hand t ≡ Held v →
+  pub hand_stored : (o : Bool) (t : ℕ) (l : Locals) (put : Simple) (gs : List Cell) (σ : State) (L1 : Value → List Cell) (G1 : Value → Store) → t < b.temporaries → Puts o t l put gs σ L1 G1 → (v : Value) (K : List Label) (k : Instructions) → l.hand t ≡ Held v →
       Goes (machine p deepest ks F) (hand_work o) (at ks [] K (laid b l) F (handle_stored (layout p deepest ks F b M n) o t put k) (storing gs (host_of σ None))) (at ks [] K (L1 v) F k (G1 v))
   hand_stored true t l put gs σ L1 G1 lt puts v K k e = then_goes (moved_out_ok b l (Hand t) (Held v) lt e) (puts v K k)
   hand_stored false t l put gs σ L1 G1 lt puts v K k e =
@@ -129,7 +129,7 @@ module _ (p : Program) (deepest : Observer) (ks : List Kind) (F : List Frame) (b
             (ap (λ w. at ks [] K (L1 w) F k (G1 w)) (sym q1));
       }
 
-  hand_few : (o : Bool) → hand_work o ≤ 4
+  pub hand_few : (o : Bool) → hand_work o ≤ 4
   hand_few true = omega arith
   hand_few false = omega arith
 

@@ -237,7 +237,7 @@ module _ (p : Program) (deepest : Observer) (ks : List Kind) (F : List Frame) (b
 
   put_in : (h : Holder) (m : AnyNumber) (u : ℕ) (k : Instructions) (K : List Label) (l : Locals) (σ : State) → HolderFits p deepest ks F b M n h → length ks ≡ b.parameters → 0 < b.temporaries → Fit p deepest ks F 0 u 0 l σ → l.hand 0 ≡ empty → l.number 0 ≡ Bits (I64 (number_word m)) → Put_in h m u k K l σ
   put_in (OfName i) m u k K l σ hk pk lt ft he hn =
-      let g = bare_global_set p deepest ks F b M n true a_number i 0 l m σ K k lt he hn ft.sound.names hk in
+      let g = bare_global_set p deepest ks F b M n true a_number i 0 l m σ K k refl lt he hn ft.sound.names hk in
       record { next = l; steps = g.steps; few = (let q = g.few in omega (arith, q)); goes = g.goes; fit = fit_global p deepest ks F b M n i (value.Num m.number) 0 u 0 l σ ft; iterators = λ y. refl }
   put_in (OfParameter i) m u k K l σ hk pk lt ft he hn =
       let t = taken p deepest ks F b M n (OfParameter i) m u K k l σ hk pk ft (ft.params i Unboxed hk).1 in

@@ -10,10 +10,10 @@ use Rattle.wasm_types.specs.Syntax.{Instructions, Done as NoMore}
 use Rattle.wasm_types.specs.declared.instr.Simple.TheVariants.{LocalSet, GlobalGet, GlobalSet}
 use Rattle.wasm_store.specs.Words.{flag}
 use Rattle.wasm_store.specs.declared.word.Word.TheVariants.{I32, I64}
-use Rattle.mid_program.specs.Mid.{Kind, Unboxed, Program, Global, Parameter, NumberOrText, Text, Get}
+use Rattle.mid_program.specs.Mid.{Kind, Unboxed, Program, Slot, Global, Parameter, NumberOrText, Text, Get}
 use Rattle.mid_program.specs.MidMeaning.{evaluated, all_evaluated}
 use Rattle.sem_scripts.specs.ScriptState.{State, global_value, local_value}
-use Rattle.mid_program.specs.Sorted.{sorted, all_sorted, kinds_of, announced_names}
+use Rattle.mid_program.specs.Sorted.{sorted, has_kind, all_sorted, kinds_of, announced_names}
 use Rattle.lower_model.specs.Cells.{Cell, Bits, Held, is_owned}
 use Rattle.lower_model.specs.Emission.{emitted, all_emitted, slot_read, text_pushed}
 use Rattle.lower_model.specs.Functions.{texts_of}
@@ -28,8 +28,8 @@ use Rattle.lower_model.proofs.Locals.{Locals, Param, Hand, Number as NumberAt, w
 use Rattle.lower_model.proofs.Globals.{Hand as NameHand, Number as NameNumber, global_of}
 use Rattle.lower_model.proofs.Steps.{empty, get_copied, set_ok, tee_ok}
 use Rattle.lower_model.proofs.GlobalSteps.{global_copied}
-use Rattle.lower_model.proofs.State.{bare, beside, BareIs, kind_here, name_hand, name_word, cells_of, arrays_before, word_not_beside, BareOf, IsBeside, IsNone, IsNumber}
-use Rattle.lower_model.proofs.Relation.{same_self, same_then, same_hand, same_number, Fit, fit_hand, fit_number, fit_more, Away}
+use Rattle.lower_model.proofs.State.{bare, beside, BareIs, kind_here, name_hand, name_word, cells_of, arrays_before, word_not_beside, IsBeside, IsNone, IsNumber}
+use Rattle.lower_model.proofs.Relation.{Same, same_self, same_then, same_hand, same_number, Fit, fit_hand, fit_number, fit_more, Away}
 use Rattle.lower_model.proofs.Answers.{machine, beside_state, row_called, Put, put_value}
 use Rattle.lower_model.proofs.Conversions.{bare_is, same_state}
 use Rattle.lower_model.proofs.Copies.{copied_global}
@@ -82,80 +82,86 @@ module _ (p : Program) (deepest : Observer) (ks : List Kind) (F : List Frame) (b
 
   -- Unboxed names.
 
-  -- what an unboxed name has, where no text stands beside it
-  put_bare : (t u w : ℕ) (k : Instructions) (K : List Label) (l : Locals) (x : Value) (σ : State) → beside x ≡ empty → Fit p deepest ks F t u w l σ → Put p deepest ks F b t u w NumberOrText k K l x σ (at ks [] K (laid b (with_at l (NumberAt t) (Bits (I64 (bare x))))) F k (beside_state p deepest ks F σ))
-  put_bare t u w k K l x σ e ft =
-      let c = Bits (I64 (bare x)) in
+  -- what an unboxed name has comes to a temporary, as it is there: its number, and the text beside it, if there is one
+  pub record NameRead (y : Slot) (x : Value) (t u w : ℕ) (k : Instructions) (K : List Label) (l : Locals) (σ : State) : Type 0 where
+    pub next : Locals
+    pub steps : ℕ
+    pub few : steps ≤ 12
+    pub goes : Goes (machine p deepest ks F) steps (at ks [] K (laid b l) F (slot_read (layout p deepest ks F b M n) y t k) (beside_state p deepest ks F σ)) (at ks [] K (laid b next) F k (beside_state p deepest ks F σ))
+    pub fit : Fit p deepest ks F (suc t) u w next σ
+    pub same : Same [] t w l next
+    pub word : next.number t ≡ Bits (I64 (bare x))
+    pub hand : next.hand t ≡ beside x
+
+  put_read : (y : Slot) (x : Value) (t u w : ℕ) (k : Instructions) (K : List Label) (l : Locals) (σ : State) → (r : NameRead y x t u w k K l σ) → Put p deepest ks F b t u w NumberOrText k K l x σ (at ks [] K (laid b r.next) F k (beside_state p deepest ks F σ))
+  put_read y x t u w k K l σ r = record { next = r.next; comes = refl; fit = r.fit; same = r.same; holds = (bare x, r.word, subst (λ d. BareIs x (bare x) d) (sym r.hand) (bare_is x)) }
+
+  pub parameter_read : (i t u w : ℕ) (k : Instructions) (K : List Label) (l : Locals) (σ : State) → has_kind ks i Unboxed ≡ true → length ks ≡ b.parameters → t < b.temporaries → Fit p deepest ks F t u w l σ → NameRead (Parameter true i) (local_value i σ) t u w k K l σ
+  parameter_read i t u w k K l σ hk pk lt ft =
+      let c = Bits (I64 (bare (local_value i σ))) in
+      let li = kind_below ks i Unboxed hk in
+      let q = ft.params i Unboxed hk in
       record {
         next = with_at l (NumberAt t) c;
-        comes = refl;
+        steps = 2;
+        few = omega arith;
+        goes = then_goes (get_copied b l (Param i) c (omega (arith, li, pk)) q.0 refl) (set_ok b l (NumberAt t) c lt (ft.numbers t));
         fit = fit_number p deepest ks F t (suc t) u w l σ c refl (fit_more p deepest ks F t u w l σ ft);
         same = same_number [] t w t l c (omega arith);
-        holds = (bare x, upd_same l.number t c, subst (λ d. BareIs x (bare x) d) (e ∙ sym (ft.free t (omega arith))) (bare_is x));
+        word = upd_same l.number t c;
+        hand = ft.free t (omega arith) ∙ sym q.1;
       }
 
   pub get_bare_parameter : (i : ℕ) → ExprOk p deepest ks F b M n (Get (Parameter true i))
   unfolding emitted all_emitted evaluated all_evaluated sorted all_sorted
   get_bare_parameter i v fs env ts st t u w d k K l σ so us rm ar rd =
       let x = local_value i σ in
-      let lt = kind_below ks i Unboxed so in
-      let pk = rd.parameters in
-      let q = rd.fit.params i Unboxed so in
-      there (machine p deepest ks F) M 12 2 _ _ x σ (Done p deepest ks F b M n v (Get (Parameter true i)) fs env ts st t u w k K l σ) (Away p deepest ks F b d K)
-      (then_goes (get_copied b l (Param i) (Bits (I64 (bare x))) (omega (arith, lt, pk)) q.0 refl) (set_ok b l (NumberAt t) (Bits (I64 (bare x))) (omega (arith, rm)) (rd.fit.numbers t))) (omega arith)
-      (put_done p deepest ks F b M n (Get (Parameter true i)) v fs env ts st t u w k K l l σ σ x _ rd.below (same_self ts t w l) (λ j z. refl) rd.kept refl tt (put_bare t u w k K l x σ q.1 rd.fit))
+      let r = parameter_read i t u w k K l σ so rd.parameters (omega (arith, rm)) rd.fit in
+      there (machine p deepest ks F) M 12 r.steps _ _ x σ (Done p deepest ks F b M n v (Get (Parameter true i)) fs env ts st t u w k K l σ) (Away p deepest ks F b d K) r.goes r.few
+      (put_done p deepest ks F b M n (Get (Parameter true i)) v fs env ts st t u w k K l l σ σ x _ rd.below (same_self ts t w l) (λ j z. refl) rd.kept refl tt (put_read (Parameter true i) x t u w k K l σ r))
 
-  record BareRead (i t u w : ℕ) (k : Instructions) (K : List Label) (l : Locals) (σ : State) (x : Value) : Type 0 where
-    conf : Conf
-    steps : ℕ
-    few : steps ≤ 12
-    goes : Goes (machine p deepest ks F) steps (at ks [] K (laid b l) F (slot_read (layout p deepest ks F b M n) (Global true i) t k) (beside_state p deepest ks F σ)) conf
-    put : Put p deepest ks F b t u w NumberOrText k K l x σ conf
-
-  bare_read : (i t u w : ℕ) (k : Instructions) (K : List Label) (l : Locals) (σ : State) → i < length (kinds_of p.globals) → kind_here (kinds_of p.globals) i ≡ Unboxed → t < b.temporaries → Fit p deepest ks F t u w l σ → BareOf (global_value i σ) → BareRead i t u w k K l σ (global_value i σ)
-  bare_read i t u w k K l σ li kh lt ft z = by z
-    where
-      by : BareOf (global_value i σ) → BareRead i t u w k K l σ (global_value i σ)
-      by z =
-          let kinds = kinds_of p.globals in
-          let g = cells_of kinds 0 σ in
-          let x = global_value i σ in
-          let e0 = ft.free t (omega arith) in
-          let l1 = with_at l (NumberAt t) (Bits (I64 (bare x))) in
-          let copy = copied (GlobalGet (global_of p.ranges (length kinds) (NameHand i))) (GlobalSet (global_of p.ranges (length kinds) (NameHand i))) (handle_local b t) NoMore in
-          let start = then_goes (global_copied p.ranges (length kinds) g (NameNumber i) (Bits (I64 (bare x))) li (ap (λ c. Bits (I64 (name_word c x))) kh) refl) (then_goes (tee_ok b l (NumberAt t) (Bits (I64 (bare x))) lt (ft.numbers t)) (by_steps 1 refl)) in
-          let f1 = fit_number p deepest ks F t (suc t) u w l σ (Bits (I64 (bare x))) refl (fit_more p deepest ks F t u w l σ ft) in
-          let hand : name_hand (kind_here kinds i) (suc (suc (arrays_before kinds i))) x ≡ beside x = ap (λ c. name_hand c (suc (suc (arrays_before kinds i))) x) kh in
-          let none : nat_eq (bare x) text_beside ≡ false → beside x ≡ empty → BareRead i t u w k K l σ x = λ ne eh. record {
-            conf = at ks [] K (laid b l1) F k (beside_state p deepest ks F σ);
-            steps = 5;
-            few = omega arith;
-            goes = then_goes (goes_to start (ap (λ q. at ks (Bits (flag q) ∷ []) K (laid b l1) F (when copy k) (beside_state p deepest ks F σ)) ne)) (then_goes (chooses copy NoMore 0) closes);
-            put = record { next = l1; comes = refl; fit = f1; same = same_number [] t w t l (Bits (I64 (bare x))) (omega arith); holds = (bare x, upd_same l.number t (Bits (I64 (bare x))), subst (λ c. BareIs x (bare x) c) (eh ∙ sym e0) z) };
-          } in
-          elim z [
-            | IsBeside eb eh ↦ record {
-              conf = at ks [] K (laid b (with_at l1 (Hand t) (Held x))) F k (beside_state p deepest ks F σ);
-              steps = 9;
-              few = omega arith;
-              goes = then_goes (goes_to start (ap (λ m. at ks (Bits (flag (nat_eq m text_beside)) ∷ []) K (laid b l1) F (when copy k) (beside_state p deepest ks F σ)) eb)) (then_goes (chooses copy NoMore 1) (then_goes (copied_global p deepest ks F b l1 (NameHand i) t x σ li lt (hand ∙ eh) (ap is_owned e0)) closes));
-              put = record {
-                next = with_at l1 (Hand t) (Held x);
-                comes = refl;
-                fit = fit_hand p deepest ks F t (suc t) u w l1 σ (Held x) (inr (x, refl)) (omega arith) f1;
-                same = same_then [] t t w w l l1 (with_at l1 (Hand t) (Held x)) (omega arith) (omega arith) (same_number [] t w t l (Bits (I64 (bare x))) (omega arith)) (same_hand [] t w t l1 (Held x) (omega arith));
-                holds = (bare x, upd_same l.number t (Bits (I64 (bare x))), IsBeside eb (upd_same l.hand t (Held x)));
-              };
-            }
-            | IsNone q eb eh ↦ none (ap (λ m. nat_eq m text_beside) eb) eh
-            | IsNumber m q eb eh ↦ none (ap (λ z. nat_eq z text_beside) eb ∙ word_not_beside m) eh
-          ]
+  pub global_read : (i t u w : ℕ) (k : Instructions) (K : List Label) (l : Locals) (σ : State) → has_kind (kinds_of p.globals) i Unboxed ≡ true → t < b.temporaries → Fit p deepest ks F t u w l σ → NameRead (Global true i) (global_value i σ) t u w k K l σ
+  global_read i t u w k K l σ hk lt ft =
+      let kinds = kinds_of p.globals in
+      let li = kind_below kinds i Unboxed hk in
+      let kh = kind_found kinds i Unboxed hk in
+      let g = cells_of kinds 0 σ in
+      let x = global_value i σ in
+      let e0 = ft.free t (omega arith) in
+      let l1 = with_at l (NumberAt t) (Bits (I64 (bare x))) in
+      let copy = copied (GlobalGet (global_of p.ranges (length kinds) (NameHand i))) (GlobalSet (global_of p.ranges (length kinds) (NameHand i))) (handle_local b t) NoMore in
+      let start = then_goes (global_copied p.ranges (length kinds) g (NameNumber i) (Bits (I64 (bare x))) li (ap (λ c. Bits (I64 (name_word c x))) kh) refl) (then_goes (tee_ok b l (NumberAt t) (Bits (I64 (bare x))) lt (ft.numbers t)) (by_steps 1 refl)) in
+      let f1 = fit_number p deepest ks F t (suc t) u w l σ (Bits (I64 (bare x))) refl (fit_more p deepest ks F t u w l σ ft) in
+      let hand : name_hand (kind_here kinds i) (suc (suc (arrays_before kinds i))) x ≡ beside x = ap (λ c. name_hand c (suc (suc (arrays_before kinds i))) x) kh in
+      let none : nat_eq (bare x) text_beside ≡ false → beside x ≡ empty → NameRead (Global true i) x t u w k K l σ = λ ne eh. record {
+        next = l1;
+        steps = 5;
+        few = omega arith;
+        goes = then_goes (goes_to start (ap (λ q. at ks (Bits (flag q) ∷ []) K (laid b l1) F (when copy k) (beside_state p deepest ks F σ)) ne)) (then_goes (chooses copy NoMore 0) closes);
+        fit = f1;
+        same = same_number [] t w t l (Bits (I64 (bare x))) (omega arith);
+        word = upd_same l.number t (Bits (I64 (bare x)));
+        hand = e0 ∙ sym eh;
+      } in
+      elim (bare_is x) [
+        | IsBeside eb eh ↦ record {
+          next = with_at l1 (Hand t) (Held x);
+          steps = 9;
+          few = omega arith;
+          goes = then_goes (goes_to start (ap (λ m. at ks (Bits (flag (nat_eq m text_beside)) ∷ []) K (laid b l1) F (when copy k) (beside_state p deepest ks F σ)) eb)) (then_goes (chooses copy NoMore 1) (then_goes (copied_global p deepest ks F b l1 (NameHand i) t x σ li lt (hand ∙ eh) (ap is_owned e0)) closes));
+          fit = fit_hand p deepest ks F t (suc t) u w l1 σ (Held x) (inr (x, refl)) (omega arith) f1;
+          same = same_then [] t t w w l l1 (with_at l1 (Hand t) (Held x)) (omega arith) (omega arith) (same_number [] t w t l (Bits (I64 (bare x))) (omega arith)) (same_hand [] t w t l1 (Held x) (omega arith));
+          word = upd_same l.number t (Bits (I64 (bare x)));
+          hand = upd_same l.hand t (Held x) ∙ sym eh;
+        }
+        | IsNone q eb eh ↦ none (ap (λ m. nat_eq m text_beside) eb) eh
+        | IsNumber m q eb eh ↦ none (ap (λ z. nat_eq z text_beside) eb ∙ word_not_beside m) eh
+      ]
 
   pub get_bare_global : (i : ℕ) → ExprOk p deepest ks F b M n (Get (Global true i))
   unfolding emitted all_emitted evaluated all_evaluated sorted all_sorted
   get_bare_global i v fs env ts st t u w d k K l σ so us rm ar rd =
-      let kinds = kinds_of p.globals in
       let x = global_value i σ in
-      let r = bare_read i t u w k K l σ (kind_below kinds i Unboxed so) (kind_found kinds i Unboxed so) (omega (arith, rm)) rd.fit (bare_is x) in
+      let r = global_read i t u w k K l σ so (omega (arith, rm)) rd.fit in
       there (machine p deepest ks F) M 12 r.steps _ _ x σ (Done p deepest ks F b M n v (Get (Global true i)) fs env ts st t u w k K l σ) (Away p deepest ks F b d K) r.goes r.few
-      (put_done p deepest ks F b M n (Get (Global true i)) v fs env ts st t u w k K l l σ σ x r.conf rd.below (same_self ts t w l) (λ j q. refl) rd.kept refl tt r.put)
+      (put_done p deepest ks F b M n (Get (Global true i)) v fs env ts st t u w k K l l σ σ x _ rd.below (same_self ts t w l) (λ j q. refl) rd.kept refl tt (put_read (Global true i) x t u w k K l σ r))

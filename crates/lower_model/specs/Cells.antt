@@ -1,10 +1,10 @@
 -- What stands on the stack, in locals and in globals of the machine over values: a word, or what the number of a handle, of an array or of an
 -- iterator stands for. A cell that is owned has one place: who reads it moves it, and nothing may be put over it.
-use Rattle.std.specs.Prelude.{ℕ, zero, ◌+◌, ◌-◌, Bool, true, false, not, ◌&&◌, ◌||◌, nat_eq, nat_lt, List, [], ◌∷◌, take, drop, get_or, length, suc, cond, Option, Some, None}
+use Rattle.std.specs.Prelude.{ℕ, zero, ◌+◌, ◌-◌, Bool, true, false, not, ◌&&◌, ◌||◌, nat_eq, nat_lt, List, [], ◌∷◌, map, take, drop, get_or, length, suc, cond, Option, Some, None}
 use Rattle.awk_values.specs.declared.value.Value.{Value as AnyValue}
 use Rattle.wasm_store.specs.declared.word.Word.{Word}
 use Rattle.wasm_store.specs.declared.word.Word.TheVariants.{I32, I64}
-use Rattle.mid_program.specs.Mid.{Kind, Boxed, Unboxed, ArrayKind}
+use Rattle.mid_program.specs.Mid.{Kind, Boxed, Unboxed, ArrayKind, Declared}
 use Rattle.mid_program.specs.Sorted.{same_kind}
 use Rattle.lower_model.specs.Small.{minus_one, text_beside}
 
@@ -162,7 +162,8 @@ marks_fit [] cells = true
 marks_fit (kind ∷ kinds) (cell ∷ (number ∷ cells)) = mark_fits kind cell number && marks_fit kinds cells
 marks_fit (kind ∷ kinds) _ = false
 
--- A handle comes into the global of an unboxed name only while the command line assigns to that name, or back to where it was moved from.
+-- A handle comes into the global of an unboxed name to which nothing is copied only while the command line assigns to that name, or back to where it was
+-- moved from.
 
 abbrev pub is_word : Cell → Bool
 is_word (Bits word) = true
@@ -172,21 +173,25 @@ abbrev pub is_gone : Cell → Bool
 is_gone Gone = true
 is_gone _ = false
 
--- whether a global of names, by its place among them, is the handle of an unboxed one
-abbrev pub is_bare_handle : List Kind → (place : ℕ) → Bool
+-- of each name whether it is such a one
+abbrev pub bare_names : List Declared → List Bool
+bare_names names = map (λ (name : Declared). same_kind name.kind Unboxed && not name.mixed) names
+
+-- whether a global of names, by its place among them, is the handle of such a one
+abbrev pub is_bare_handle : List Bool → (place : ℕ) → Bool
 is_bare_handle [] place = false
-is_bare_handle (kind ∷ kinds) zero = same_kind kind Unboxed
-is_bare_handle (kind ∷ kinds) (suc zero) = false
-is_bare_handle (kind ∷ kinds) (suc (suc place)) = is_bare_handle kinds place
+is_bare_handle (bare ∷ rest) zero = bare
+is_bare_handle (bare ∷ rest) (suc zero) = false
+is_bare_handle (bare ∷ rest) (suc (suc place)) = is_bare_handle rest place
 
 abbrev pub is_handle_of : Option ℕ → (place : ℕ) → Bool
 is_handle_of None place = false
 is_handle_of (Some name) place = nat_eq place (name + name)
 
 -- names begin with global `before`
-abbrev pub may_come : (before : ℕ) → List Kind → (assigning : Option ℕ) → (place : ℕ) → (old new : Cell) → Bool
-may_come before kinds assigning place old new =
-    is_word new || (is_gone old || (not (is_bare_handle kinds (place - before)) || is_handle_of assigning (place - before)))
+abbrev pub may_come : (before : ℕ) → (bare : List Bool) → (assigning : Option ℕ) → (place : ℕ) → (old new : Cell) → Bool
+may_come before bare assigning place old new =
+    is_word new || (is_gone old || (not (is_bare_handle bare (place - before)) || is_handle_of assigning (place - before)))
 
 -- once a fault is kept this is a bound from above: a name may have nothing
 abbrev pub ended_name : Kind → Cell → Bool

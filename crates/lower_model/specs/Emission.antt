@@ -150,11 +150,17 @@ module _ (layout : Layout) where
       emit (GlobalGet (global_number name)) (emit (I64Const text_beside) (emit (Comparing I64 Eq)
       (when (emit (GlobalGet (global_handle name)) (ask Drop (emit (I32Const minus_one) (emit (GlobalSet (global_handle name)) Done)))) after)))
 
+  -- the text beside the number of a temporary, if there is one, comes beside an unboxed name
+  abbrev pub text_stored : (only : Bool) → ℕ → Form → ℕ → Instructions → Instructions
+  text_stored only name NumberOrText temporary after =
+      number_is (number_local bases temporary) text_beside (when (handle_stored only temporary (GlobalSet (global_handle name)) Done) after)
+  text_stored only name form temporary after = after
+
   abbrev pub slot_set : (only : Bool) → Slot → Form → ℕ → Instructions → Instructions
   slot_set only (Global false name) form temporary after =
       emit (GlobalGet (global_handle name)) (ask Drop (value_stored only form temporary (GlobalSet (global_handle name)) after))
   slot_set only (Global true name) form temporary after =
-      text_dropped name (emit (LocalGet (number_local bases temporary)) (emit (GlobalSet (global_number name)) after))
+      text_dropped name (text_stored only name form temporary (emit (LocalGet (number_local bases temporary)) (emit (GlobalSet (global_number name)) after)))
   slot_set only (Parameter false place) form temporary after = emit (LocalGet place) (ask Drop (value_stored only form temporary (LocalSet place) after))
   slot_set only (Parameter true place) form temporary after = emit (LocalGet (number_local bases temporary)) (emit (LocalSet place) after)
 

@@ -60,12 +60,13 @@ Notes = Instructions → List Action → List Action
 abbrev pub no_notes : Notes
 no_notes code output = output
 
--- what the machine runs: its functions, the texts in memory, how many globals stand before those of the names, the names' kinds, how many callers may
--- wait, and what is noted
+-- what the machine runs: its functions, the texts in memory, how many globals stand before those of the names, the names' kinds and which are unboxed and
+-- take no copies, how many callers may wait, and what is noted
 pub record Code : Type 0 where
   pub memory : List ℕ
   pub before : ℕ
   pub names : List Kind
+  pub bare : List Bool
   pub callees : List Callee
   pub deepest : ℕ
   pub notes : Notes
@@ -204,7 +205,7 @@ assigning_then _ name = None
 abbrev pub set_global : Code → ℕ → List Kind → List Cell → List Label → List Cell → List Frame → Instructions → Store → Conf
 set_global code global kinds [] labels locals callers rest store = Stuck
 set_global code global kinds (cell ∷ stack) labels locals callers rest store =
-    guarded (has_room store.globals global && may_come code.before code.names store.assigning global (cell_at store.globals global) cell)
+    guarded (has_room store.globals global && may_come code.before code.bare store.assigning global (cell_at store.globals global) cell)
     (at kinds stack labels locals callers rest (record store { globals = set store.globals global cell; assigning = assigning_then cell store.assigning }))
 
 -- Calls.

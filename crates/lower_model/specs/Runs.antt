@@ -5,7 +5,7 @@ use Rattle.wasm_store.specs.declared.word.Word.TheVariants as word
 use Rattle.mid_program.specs.Mid.{Kind, Program}
 use Rattle.mid_program.specs.Sorted.{kinds_of}
 use Rattle.sem_scripts.specs.ScriptRun.{Setting, Ending}
-use Rattle.lower_model.specs.Cells.{Cell, Bits, Gone}
+use Rattle.lower_model.specs.Cells.{Cell, Bits, Gone, bare_names}
 use Rattle.lower_model.specs.ImportCalls.{Host}
 use Rattle.lower_model.specs.Machine.{Notes, no_notes, Code, Conf, at, zeros, go, ending_at}
 use Rattle.lower_model.specs.Places.{memory_of}
@@ -28,6 +28,7 @@ noting_code notes program deepest = record {
   memory = memory_of (texts_of program);
   before = suc (suc (suc program.ranges));
   names = kinds_of program.globals;
+  bare = bare_names program.globals;
   callees = map (routine_callee program) program.routines;
   deepest = deepest;
   notes = notes;
