@@ -2,7 +2,7 @@
 //!
 //! Laws of the runs of modules, each the contract of a function that does nothing.
 ghost use Rattle.std.specs.List.{All};
-ghost use Rattle.std.specs.Prelude.{◌≡◌, ◌≤◌, ◌+◌, true, ℕ, List, Option, None, Some, length, slice_get};
+ghost use Rattle.std.specs.Prelude.{◌≡◌, ◌≤◌, ◌+◌, false, true, ℕ, List, Option, None, Some, length, slice_get};
 ghost use Rattle.sem_primitives.specs.Jobs.{JobForm, Environment};
 ghost use Rattle.awk_grammar.specs.Trees.{Item};
 ghost use Rattle.awk_grammar.specs.Kinds.{most_parameters, refusal};
@@ -12,7 +12,7 @@ ghost use Rattle.host_step.specs.HostState.{HostState};
 ghost use Rattle.host_step.specs.Live.{live_arrays, live_iterators, live_values};
 ghost use Rattle.sem_scripts.specs.Kinds.{resolved};
 ghost use Rattle.mid_program.specs.Mid.{Program, Routine, Unboxed};
-ghost use Rattle.mid_program.specs.Sorted.{IsSorted, has_kind, kinds_of};
+ghost use Rattle.mid_program.specs.Sorted.{IsSorted, has_kind, is_mixed, kinds_of, mixed_of};
 ghost use Rattle.mid_program.specs.Translation.{program_of};
 ghost use Rattle.lower_model.specs.Boundaries.{nops_in, steps_places};
 ghost use Rattle.lower_model.specs.Functions.{main_callee, routine_callee};
@@ -85,15 +85,16 @@ pub fn names_alone_are_alive()
     ensures iterators { (p : Program) (c : Conf) (s : HostState) → AtReturn p c s → live_iterators s ≡ 0 }
 {}
 
-/// An unboxed name to which the command line has not assigned in a run has no handle where that run comes to a statement: a text comes beside a number by
-/// such an assignment alone.
+/// An unboxed name that takes no copies, and to which the command line has not assigned in a run, has no handle where that run comes to a statement: a text
+/// comes beside its number by such an assignment alone.
 pub fn names_get_no_handle()
     ensures { (p : Program) → IsSorted p
         → (job : JobForm) (input : Source) (outside : Environment)
         → (m : MachineForm) (c : Conf) (s : HostState)
         → (reached : Reached (module_of p) job input outside m c s)
         → begins_statement c.frame.code ≡ true
-        → (i : ℕ) → has_kind (kinds_of p.globals) i Unboxed ≡ true → (IsAssigned reached i → ⊥)
+        → (i : ℕ) → has_kind (kinds_of p.globals) i Unboxed ≡ true
+        → is_mixed (mixed_of p.globals) i ≡ false → (IsAssigned reached i → ⊥)
         → slice_get c.globals (handle_global p.ranges i) ≡ Some (I32 minus_one) }
 {}
 

@@ -38,7 +38,7 @@ pub record Leads (u : Code) (P Q : Store → Type 0) : Type 0 where
   pub called : (i : Import) (cs : List Cell) (a : Option Cell × Host) (G : Store) → call u.memory i cs G.host ≡ Some a → P G → Q (record G { host = a.1; assigning = assigning_after i G })
   pub looked : (i : Import) (c : Cell) (a : Option Cell × Host) (G : Store) → look i c G.host ≡ Some a → P G → Q (record G { host = a.1 })
   pub read : (x : ℕ) (G : Store) → P G → Q (record G { globals = set G.globals x (left_in_global (cell_at G.globals x)) })
-  pub written : (x : ℕ) (v : Cell) (G : Store) → may_come u.before u.names G.assigning x (cell_at G.globals x) v ≡ true → P G → Q (record G { globals = set G.globals x v; assigning = assigning_then v G.assigning })
+  pub written : (x : ℕ) (v : Cell) (G : Store) → may_come u.before u.bare G.assigning x (cell_at G.globals x) v ≡ true → P G → Q (record G { globals = set G.globals x v; assigning = assigning_then v G.assigning })
 
 module _ (u : Code) (P Q : Store → Type 0) (leads : Leads u P Q) where
   at_in : (ks : List Kind) (vs : List Cell) (K : List Label) (L : List Cell) (F : List Frame) (k : Instructions) (G : Store) → Q G → InStore Q (at ks vs K L F k G)
@@ -91,7 +91,7 @@ module _ (u : Code) (P Q : Store → Type 0) (leads : Leads u P Q) where
   set_global_in : (x : ℕ) (ks : List Kind) (vs : List Cell) (K : List Label) (L : List Cell) (F : List Frame) (c : Instructions) (G : Store) → P G → InStore Q (set_global u x ks vs K L F c G)
   set_global_in x ks [] K L F c G p = tt
   set_global_in x ks (v ∷ vs) K L F c G p =
-      let may = may_come u.before u.names G.assigning x (cell_at G.globals x) v in
+      let may = may_come u.before u.bare G.assigning x (cell_at G.globals x) v in
       guarded_where (has_room G.globals x && may) _ (λ e. at_in ks vs K L F c _ (leads.written x v G (and_parts (has_room G.globals x) may e).1 p))
 
   with_answer_in : (a : Option (Option Cell × Host)) (ks : List Kind) (vs : List Cell) (K : List Label) (L : List Cell) (F : List Frame) (c : Instructions) (G : Store) → ((z : Option Cell × Host) → a ≡ Some z → Q (record G { host = z.1 })) → InStore Q (with_answer a ks vs K L F c G)

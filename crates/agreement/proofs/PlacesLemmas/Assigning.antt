@@ -1,10 +1,9 @@
--- NAMES GET NO HANDLE but by the command line: the machine over values puts a value into the handle of an unboxed name only while it makes an assignment to that name, which the host had pending.
+-- NAMES GET NO HANDLE but by the command line: the machine over values puts a value into the handle of an unboxed name that takes no copies only while it makes an assignment to that name, which the host had pending.
 use Rattle.std.proofs.Common.{◌≡◌, ◌⊎◌, inl, inr, ℕ, zero, suc, ◌+◌, ◌-◌, Bool, true, false, not, ◌||◌, List, [], ◌∷◌, set, Option, Some, None, refl, sym, ap, ◌∙◌, arith}
 use Rattle.std.proofs.lemmas.Bool.{cases_eq, eqb-true}
 use Rattle.std.proofs.lemmas.List.{get_or-set_other}
 use Rattle.awk_values.specs.declared.value.Value.{Value}
 use Rattle.sem_primitives.specs.declared.table.Primitive.TheVariants as row
-use Rattle.mid_program.specs.Mid.{Kind}
 use Rattle.lower_model.specs.Cells.{Cell, Bits, Held, IteratorOf, OwnedArray, LentArray, Gone, cell_at, is_bare_handle, is_gone, is_handle_of, is_word, left_in_global, may_come}
 use Rattle.lower_model.specs.Machine.{Code, Conf, Store, assigning_after, assigning_then, number_pending, step}
 use Rattle.host_imports.specs.declared.import.Import.{Import}
@@ -42,13 +41,13 @@ handle_of None i e = cc
 handle_of (Some j) i e = let q = eqb-true (i + i) (j + j) e in let z : j ≡ i = omega (arith, q) in ap Some z
 
 -- what may come where no word is set
-comes_by : (before : ℕ) (ks : List Kind) (name : Option ℕ) (i : ℕ) (old new : Cell) → is_bare_handle ks (i + i) ≡ true → is_word new ≡ false → may_come before ks name (before + (i + i)) old new ≡ true →
+comes_by : (before : ℕ) (bs : List Bool) (name : Option ℕ) (i : ℕ) (old new : Cell) → is_bare_handle bs (i + i) ≡ true → is_word new ≡ false → may_come before bs name (before + (i + i)) old new ≡ true →
     (is_word old ≡ false) ⊎ (name ≡ Some i)
-comes_by before ks name i old new b w e =
+comes_by before bs name i old new b w e =
     let x : before + (i + i) - before ≡ i + i = omega arith in
     by (either_true (is_gone old) (is_handle_of name (i + i))
-    (sym (ap (λ z. z || (is_gone old || (not (is_bare_handle ks (before + (i + i) - before)) || is_handle_of name (before + (i + i) - before)))) w
-    ∙ (ap (λ z. is_gone old || (not (is_bare_handle ks z) || is_handle_of name z)) x
+    (sym (ap (λ z. z || (is_gone old || (not (is_bare_handle bs (before + (i + i) - before)) || is_handle_of name (before + (i + i) - before)))) w
+    ∙ (ap (λ z. is_gone old || (not (is_bare_handle bs z) || is_handle_of name z)) x
     ∙ ap (λ z. is_gone old || (not z || is_handle_of name (i + i))) b)) ∙ e))
   where
     by : (is_gone old ≡ true) ⊎ (is_handle_of name (i + i) ≡ true) → (is_word old ≡ false) ⊎ (name ≡ Some i)
@@ -59,7 +58,7 @@ comes_by before ks name i old new b w e =
 module _ (u : Code) (T : ℕ → Type 0) where
   pub record Told (G : Store) : Type 0 where
     pub assigning : (i : ℕ) → G.assigning ≡ Some i → T i
-    pub handles : (i : ℕ) → is_bare_handle u.names (i + i) ≡ true → is_word (cell_at G.globals (u.before + (i + i))) ≡ false → T i
+    pub handles : (i : ℕ) → is_bare_handle u.bare (i + i) ≡ true → is_word (cell_at G.globals (u.before + (i + i))) ≡ false → T i
 
   pub record Asks (G : Store) : Type 0 where
     pub told : Told G
@@ -77,7 +76,7 @@ module _ (u : Code) (T : ℕ → Type 0) where
   after_told (OfPrimitive row.PendingName) G a j e = number_told G.host.shared.inner.pending a.pending j e
   after_told _ G a j e = a.told.assigning j e
 
-  read_told : (x : ℕ) (G : Store) → Asks G → (i : ℕ) → is_bare_handle u.names (i + i) ≡ true → is_word (cell_at (set G.globals x (left_in_global (cell_at G.globals x))) (u.before + (i + i))) ≡ false → T i
+  read_told : (x : ℕ) (G : Store) → Asks G → (i : ℕ) → is_bare_handle u.bare (i + i) ≡ true → is_word (cell_at (set G.globals x (left_in_global (cell_at G.globals x))) (u.before + (i + i))) ≡ false → T i
   read_told x G a i b e = by (cases_eq (u.before + (i + i)) x)
     where
       y : ℕ
@@ -102,7 +101,7 @@ module _ (u : Code) (T : ℕ → Type 0) where
   assigned_before (LentArray x) name i q = cc
   assigned_before Gone name i q = cc
 
-  written_told : (x : ℕ) (v : Cell) (G : Store) → may_come u.before u.names G.assigning x (cell_at G.globals x) v ≡ true → Asks G → (i : ℕ) → is_bare_handle u.names (i + i) ≡ true → is_word (cell_at (set G.globals x v) (u.before + (i + i))) ≡ false → T i
+  written_told : (x : ℕ) (v : Cell) (G : Store) → may_come u.before u.bare G.assigning x (cell_at G.globals x) v ≡ true → Asks G → (i : ℕ) → is_bare_handle u.bare (i + i) ≡ true → is_word (cell_at (set G.globals x v) (u.before + (i + i))) ≡ false → T i
   written_told x v G may a i b e = by (cases_eq (u.before + (i + i)) x)
     where
       y : ℕ
@@ -114,8 +113,8 @@ module _ (u : Code) (T : ℕ → Type 0) where
 
       here : y ≡ x → (cell_at (set G.globals x v) x ≡ v) ⊎ (cell_at (set G.globals x v) x ≡ cell_at G.globals x) → T i
       here q (inl h) =
-          came (comes_by u.before u.names G.assigning i (cell_at G.globals y) v b (sym (ap is_word h) ∙ (sym (ap (λ z. is_word (cell_at (set G.globals x v) z)) q) ∙ e))
-          (ap (λ z. may_come u.before u.names G.assigning z (cell_at G.globals z) v) q ∙ may))
+          came (comes_by u.before u.bare G.assigning i (cell_at G.globals y) v b (sym (ap is_word h) ∙ (sym (ap (λ z. is_word (cell_at (set G.globals x v) z)) q) ∙ e))
+          (ap (λ z. may_come u.before u.bare G.assigning z (cell_at G.globals z) v) q ∙ may))
       here q (inr h) = a.told.handles i b (ap (λ z. is_word (cell_at G.globals z)) q ∙ (sym (ap is_word h) ∙ (sym (ap (λ z. is_word (cell_at (set G.globals x v) z)) q) ∙ e)))
 
       by : (y ≡ x) ⊎ (y ≡ x → ⊥) → T i

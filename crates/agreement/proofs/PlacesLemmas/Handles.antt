@@ -1,5 +1,5 @@
--- So on a run: a name to which the command line has not assigned has no handle where a statement begins.
-use Rattle.std.proofs.Common.{◌≡◌, inl, inr, ℕ, zero, suc, ◌+◌, Bool, true, false, ◌&&◌, nat_eq, List, [], ◌∷◌, ◌++◌, drop, slice_get, Some, None, refl, sym, ap, ◌∙◌, arith, subst}
+-- So on a run: a name that takes no copies, and to which the command line has not assigned, has no handle where a statement begins.
+use Rattle.std.proofs.Common.{◌≡◌, inl, inr, ℕ, zero, suc, ◌+◌, Bool, true, false, not, ◌&&◌, nat_eq, List, [], ◌∷◌, ◌++◌, drop, slice_get, Some, None, refl, sym, ap, ap₂, ◌∙◌, arith, subst}
 use Rattle.std.proofs.lemmas.Bool.{and_parts, eqb-true}
 use Rattle.sem_primitives.specs.Jobs.{JobForm, Environment}
 use Rattle.world_core.specs.WorldState.{Action, Source}
@@ -11,10 +11,10 @@ use Rattle.wasm_model.specs.Machines as real
 use Rattle.wasm_model.specs.Runs.{MachineForm, Steps}
 use Rattle.host_step.specs.HostState.{HostState, Names}
 use Rattle.host_step.specs.Starts.{state_in}
-use Rattle.mid_program.specs.Mid.{Kind, Boxed, Unboxed, ArrayKind, Program}
+use Rattle.mid_program.specs.Mid.{Kind, Boxed, Unboxed, ArrayKind, Declared, Program}
 use Rattle.sem_scripts.specs.ScriptRun.{Setting, setting_in}
-use Rattle.mid_program.specs.Sorted.{has_kind, kinds_of}
-use Rattle.lower_model.specs.Cells.{Cell, Bits, Held, IteratorOf, OwnedArray, LentArray, Gone, cell_at, globals_by, is_bare, is_bare_handle, is_word, iterators_in, mark_fits, marks_fit, tidy_locals, tidy_name}
+use Rattle.mid_program.specs.Sorted.{has_kind, is_mixed, kinds_of, mixed_of}
+use Rattle.lower_model.specs.Cells.{Cell, Bits, Held, IteratorOf, OwnedArray, LentArray, Gone, cell_at, globals_by, is_bare, bare_names, is_bare_handle, is_word, iterators_in, mark_fits, marks_fit, tidy_locals, tidy_name}
 use Rattle.lower_model.specs.Functions.{main_callee}
 use Rattle.lower_model.specs.Machine.{Code, Conf, Deep, Look, Over, Run, Store, Stuck, go, is_empty, loops_walked, step, zeros}
 use Rattle.lower_model.specs.Modules.{called_imports, module_of}
@@ -38,22 +38,22 @@ use Rattle.agreement.proofs.PlacesLemmas.Keeping.{alive, begins_same, no_look, s
 
 -- At the beginning names have words.
 
-names_words : (ks : List Kind) (x : ℕ) → is_bare_handle ks x ≡ true → is_word (cell_at (empty_names ks) x) ≡ true
+names_words : (ds : List Declared) (x : ℕ) → is_bare_handle (bare_names ds) x ≡ true → is_word (cell_at (empty_names (kinds_of ds)) x) ≡ true
 names_words [] x e = cc
-names_words (k ∷ ks) zero e = refl
-names_words (k ∷ ks) (suc zero) e = refl
-names_words (k ∷ ks) (suc (suc x)) e = names_words ks x e
+names_words (d ∷ ds) zero e = refl
+names_words (d ∷ ds) (suc zero) e = refl
+names_words (d ∷ ds) (suc (suc x)) e = names_words ds x e
 
-behind_ranges : (r : ℕ) (ks : List Kind) (x y : ℕ) → y ≡ r + x → is_bare_handle ks x ≡ true → is_word (cell_at (zero_ranges r ++ empty_names ks) y) ≡ true
-behind_ranges zero ks x y q e = let z : y ≡ x = omega (arith, q) in ap (λ n. is_word (cell_at (empty_names ks) n)) z ∙ names_words ks x e
-behind_ranges (suc r) ks x zero q e = absurd (omega (arith, q))
-behind_ranges (suc r) ks x (suc y) q e = behind_ranges r ks x y (omega (arith, q)) e
+behind_ranges : (r : ℕ) (ds : List Declared) (x y : ℕ) → y ≡ r + x → is_bare_handle (bare_names ds) x ≡ true → is_word (cell_at (zero_ranges r ++ empty_names (kinds_of ds)) y) ≡ true
+behind_ranges zero ds x y q e = let z : y ≡ x = omega (arith, q) in ap (λ n. is_word (cell_at (empty_names (kinds_of ds)) n)) z ∙ names_words ds x e
+behind_ranges (suc r) ds x zero q e = absurd (omega (arith, q))
+behind_ranges (suc r) ds x (suc y) q e = behind_ranges r ds x y (omega (arith, q)) e
 
-first_words : (p : Program) (x y : ℕ) → y ≡ first_name p + x → is_bare_handle (kinds_of p.globals) x ≡ true → is_word (cell_at (first_globals p) y) ≡ true
+first_words : (p : Program) (x y : ℕ) → y ≡ first_name p + x → is_bare_handle (bare_names p.globals) x ≡ true → is_word (cell_at (first_globals p) y) ≡ true
 first_words p x zero q e = absurd (omega (arith, q))
 first_words p x (suc zero) q e = absurd (omega (arith, q))
 first_words p x (suc (suc zero)) q e = absurd (omega (arith, q))
-first_words p x (suc (suc (suc y))) q e = behind_ranges p.ranges (kinds_of p.globals) x y (omega (arith, q)) e
+first_words p x (suc (suc (suc y))) q e = behind_ranges p.ranges p.globals x y (omega (arith, q)) e
 
 -- On a run from one place to another.
 
@@ -114,13 +114,13 @@ module _ (made : ℕ) (N : Names) where
   others_before (suc before) ks (c ∷ cs) [] a e i (suc j) q k b = absurd a
   others_before (suc before) ks (c ∷ cs) (w ∷ ws) a e i (suc j) q k b = others_before before ks cs ws a.1 e i j (omega (arith, q)) k b
 
-kind_bare : (ks : List Kind) (i j : ℕ) → j ≡ i + i → has_kind ks i Unboxed ≡ true → is_bare_handle ks j ≡ true
-kind_bare [] i j q k = cc
-kind_bare (x ∷ ks) zero zero q k = k
-kind_bare (x ∷ ks) zero (suc j) q k = absurd (omega (arith, q))
-kind_bare (x ∷ ks) (suc i) zero q k = absurd (omega (arith, q))
-kind_bare (x ∷ ks) (suc i) (suc zero) q k = absurd (omega (arith, q))
-kind_bare (x ∷ ks) (suc i) (suc (suc j)) q k = kind_bare ks i j (omega (arith, q)) k
+bare_there : (ds : List Declared) (i j : ℕ) → j ≡ i + i → has_kind (kinds_of ds) i Unboxed ≡ true → is_mixed (mixed_of ds) i ≡ false → is_bare_handle (bare_names ds) j ≡ true
+bare_there [] i j q k m = cc
+bare_there (d ∷ ds) zero zero q k m = ap₂ (λ a b. a && not b) k m
+bare_there (d ∷ ds) zero (suc j) q k m = absurd (omega (arith, q))
+bare_there (d ∷ ds) (suc i) zero q k m = absurd (omega (arith, q))
+bare_there (d ∷ ds) (suc i) (suc zero) q k m = absurd (omega (arith, q))
+bare_there (d ∷ ds) (suc i) (suc (suc j)) q k m = bare_there ds i j (omega (arith, q)) k m
 
 by_word : (b : Bool) → (b ≡ false → ⊥) → b ≡ true
 by_word true h = refl
@@ -142,29 +142,29 @@ module _ (p : Program) (T : ℕ → Type 0) where
   abbrev NoHandle : real.Conf → ℕ → Type 0
   NoHandle c i = slice_get c.globals (handle_global p.ranges i) ≡ Some (I32 minus_one)
 
-  without : (G : Store) (c : real.Conf) (s : HostState) → WordsAs (arrays_made G.host) s.names G.globals c.globals → marks_fit u.names (drop u.before G.globals) ≡ true → Told u T G → (i : ℕ) → has_kind u.names i Unboxed ≡ true → (T i → ⊥) → NoHandle c i
-  without G c s a e told i k not =
+  without : (G : Store) (c : real.Conf) (s : HostState) → WordsAs (arrays_made G.host) s.names G.globals c.globals → marks_fit u.names (drop u.before G.globals) ≡ true → Told u T G → (i : ℕ) → has_kind u.names i Unboxed ≡ true → is_mixed (mixed_of p.globals) i ≡ false → (T i → ⊥) → NoHandle c i
+  without G c s a e told i k m not =
       others_before (arrays_made G.host) s.names u.before u.names G.globals c.globals a e i (handle_global p.ranges i) refl k
-      (by_word (is_word (cell_at G.globals (handle_global p.ranges i))) (λ q. not (told.handles i (kind_bare u.names i (i + i) refl k) q)))
+      (by_word (is_word (cell_at G.globals (handle_global p.ranges i))) (λ q. not (told.handles i (bare_there p.globals i (i + i) refl k m) q)))
 
-  there : (P : Conf) (c : real.Conf) (s : HostState) → AsThere P c s → InStore (Told u T) P → (step u P ≡ Stuck → ⊥) → begins_statement c.frame.code ≡ true → (i : ℕ) → has_kind u.names i Unboxed ≡ true → (T i → ⊥) → NoHandle c i
-  there (Run ks vs K L F code G) c s a told alive-is e i k not =
+  there : (P : Conf) (c : real.Conf) (s : HostState) → AsThere P c s → InStore (Told u T) P → (step u P ≡ Stuck → ⊥) → begins_statement c.frame.code ≡ true → (i : ℕ) → has_kind u.names i Unboxed ≡ true → is_mixed (mixed_of p.globals) i ≡ false → (T i → ⊥) → NoHandle c i
+  there (Run ks vs K L F code G) c s a told alive-is e i k m not =
       let begins-is : begins_statement code ≡ true = sym (begins_same (called_imports p) code) ∙ ap begins_statement (sym a.code-is.same ∙ settled_nop c.frame.code e) ∙ e in
       let tidy-is = tidy_there u ks vs K L F code G begins-is alive-is in
       let split = and_parts (is_empty vs && is_empty G.host.arguments) ((tidy_locals ks L && nat_eq (iterators_in L) (loops_walked K)) && (globals_by tidy_name u.before u.names G.globals && marks_fit u.names (drop u.before G.globals))) tidy-is in
       let inner = and_parts (tidy_locals ks L && nat_eq (iterators_in L) (loops_walked K)) (globals_by tidy_name u.before u.names G.globals && marks_fit u.names (drop u.before G.globals)) split.1 in
       let named = and_parts (globals_by tidy_name u.before u.names G.globals) (marks_fit u.names (drop u.before G.globals)) inner.1 in
-      without G c s a.rest.globals named.1 told i k not
-  there (Look x ks vs K L F code G) c s a told alive-is e i k not =
+      without G c s a.rest.globals named.1 told i k m not
+  there (Look x ks vs K L F code G) c s a told alive-is e i k m not =
       absurd (no_look u x ks vs K L F code G (sym (begins_same (called_imports p) code) ∙ ap begins_statement (sym a.run.code-is.same) ∙ e) alive-is)
-  there (Over v G) c s a told alive-is e i k not = let h : false ≡ true = sym (ap (λ (f : FrameForm). begins_statement f.code) a.frame) ∙ e in cc
-  there (Deep G) c s a told alive-is e i k not = absurd a
-  there Stuck c s a told alive-is e i k not = absurd (alive-is refl)
+  there (Over v G) c s a told alive-is e i k m not = let h : false ≡ true = sym (ap (λ (f : FrameForm). begins_statement f.code) a.frame) ∙ e in cc
+  there (Deep G) c s a told alive-is e i k m not = absurd a
+  there Stuck c s a told alive-is e i k m not = absurd (alive-is refl)
 
 -- NO HANDLE: wherever a run comes to a statement
 pub unassigned : (p : Program) → ValueAgreement p → (job : JobForm) (input : Source) (outside : Environment) (m : MachineForm) (c : real.Conf) (s : HostState) (reached : Reached (module_of p) job input outside m c s) →
-    begins_statement c.frame.code ≡ true → (i : ℕ) → has_kind (kinds_of p.globals) i Unboxed ≡ true → (IsAssigned reached i → ⊥) → slice_get c.globals (handle_global p.ranges i) ≡ Some (I32 minus_one)
-unassigned p agree job input outside m c s reached e i k not = by reached.steps reached.taken (λ j q. q)
+    begins_statement c.frame.code ≡ true → (i : ℕ) → has_kind (kinds_of p.globals) i Unboxed ≡ true → is_mixed (mixed_of p.globals) i ≡ false → (IsAssigned reached i → ⊥) → slice_get c.globals (handle_global p.ranges i) ≡ Some (I32 minus_one)
+unassigned p agree job input outside a c s reached e i k m not = by reached.steps reached.taken (λ j q. q)
   where
     start : HostState
     start = state_in job input outside
@@ -175,13 +175,13 @@ unassigned p agree job input outside m c s reached e i k not = by reached.steps 
     T : ℕ → Type 0
     T j = IsAssigned reached j
 
-    by : (n : ℕ) (way : Steps table_meaning m.program n m.conf start reached.output c s) → ((j : ℕ) → Somewhere (IsPending j) m.program n m.conf start reached.output c s way → T j) → slice_get c.globals (handle_global p.ranges i) ≡ Some (I32 minus_one)
+    by : (n : ℕ) (way : Steps table_meaning a.program n a.conf start reached.output c s) → ((j : ℕ) → Somewhere (IsPending j) a.program n a.conf start reached.output c s way → T j) → slice_get c.globals (handle_global p.ranges i) ≡ Some (I32 minus_one)
     by zero way f = let h : false ≡ true = sym (ap (λ (z : real.Conf). begins_statement z.frame.code) (way.0 ∙ reached.is_new.conf)) ∙ e in cc
     by (suc n) way f =
-        let first = taken_first table_meaning m.program m.conf (in_main p) (begins p m reached.is_new) start way.2 way.0 way.1 way.4 in
-        let links = subst (λ (z : ProgramForm). Linked (stays p) (called_imports p) (code_of p 9999) z) (sym (program_is p m reached.is_new)) (linked p) in
+        let first = taken_first table_meaning a.program a.conf (in_main p) (begins p a reached.is_new) start way.2 way.0 way.1 way.4 in
+        let links = subst (λ (z : ProgramForm). Linked (stays p) (called_imports p) (code_of p 9999) z) (sym (program_is p a reached.is_new)) (linked p) in
         let at_first = subst (λ (z : real.Conf). As (stays p) (called_imports p) (code_of p 9999) (begun p set) z way.1) (sym first.0)
         (subst (λ (z : HostState). As (stays p) (called_imports p) (code_of p 9999) (begun p set) (in_main p) z) (sym first.1) (begun_as p set 9999)) in
         there p T (go (code_of p 9999) n (begun p set)) c s (steps_as links arrays_grow n (begun p set) way.0 way.1 way.3 c s at_first way.5)
         (told_on links arrays_grow T n (begun p set) way.0 way.1 way.3 c s way.5 at_first (first_told p T set) (λ j q. f j (inr q)))
-        (alive p agree job input outside m c s reached n) e i k not
+        (alive p agree job input outside a c s reached n) e i k m not

@@ -272,7 +272,11 @@ module _ (y : Layout) (l : Limit) (G : (t f : ℕ) → Codes → Type 0)
   module _ {k : Instructions} {m : List Instructions} where
     set_nops : (o : Bool) (x : Slot) (f : Form) (t : ℕ) → Nops l k m → Nops l (slot_set y o x f t k) m
     set_nops o (Global false i) f t r = plain _ refl (plain _ refl (stored_nops o f t _ refl r))
-    set_nops o (Global true i) f t r = record { are = r.are; calls = r.calls; frees = r.frees }
+    set_nops o (Global true i) (PrimitiveAnswer a) t r = record { are = r.are; calls = r.calls; frees = r.frees }
+    set_nops o (Global true i) NumberOrText t r =
+        plain _ refl (plain _ refl (plain _ refl (choice (plain _ refl (plain _ refl (plain _ refl (plain _ refl none)))) none
+        (plain _ refl (plain _ refl (plain _ refl (choice (handle_nops o t _ refl none) none (plain _ refl (plain _ refl r)))))))))
+    set_nops o (Global true i) OptionalNumber t r = record { are = r.are; calls = r.calls; frees = r.frees }
     set_nops o (Parameter false i) f t r = plain _ refl (plain _ refl (stored_nops o f t _ refl r))
     set_nops o (Parameter true i) f t r = record { are = r.are; calls = r.calls; frees = r.frees }
 

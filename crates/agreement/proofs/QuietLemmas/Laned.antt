@@ -1,11 +1,11 @@
--- Names that are unboxed, and to which the command line has not assigned, have no text beside them where a statement begins. So statements of scripts on such names are quiet.
+-- Names that are unboxed, take no copies, and to which the command line has not assigned, have no text beside them where a statement begins. So statements of scripts on such names are quiet.
 use Rattle.std.proofs.Common.{◌≡◌, ◌⊎◌, inl, inr, ℕ, zero, suc, ◌+◌, true, false, List, [], ◌∷◌, drop, length, slice_get, Some, refl, ap, ◌∙◌, arith}
 use Rattle.wasm_store.specs.declared.word.Word.{Word}
 use Rattle.wasm_store.specs.declared.word.Word.TheVariants.{I32}
 use Rattle.wasm_model.specs.Machines.{Conf}
 use Rattle.host_step.specs.HostState.{HostState}
 use Rattle.mid_program.specs.Mid.{Code, Global, Parameter, Program, Slot, Step, Then, Unboxed}
-use Rattle.mid_program.specs.Sorted.{has_kind, kinds_of}
+use Rattle.mid_program.specs.Sorted.{has_kind, is_mixed, kinds_of, mixed_of}
 use Rattle.lower_model.specs.Places.{Bases, handle_global, number_global}
 use Rattle.lower_model.specs.Small.{minus_one}
 use Rattle.lower_model.specs.Statements.{step_emitted, steps_emitted}
@@ -43,13 +43,13 @@ behind (suc n) (w ∷ ws) j (suc x) e = behind n ws j x (omega (arith, e))
 
 -- names that are not assigned have no handle
 abbrev pub NoHandles : Program → Conf → (ℕ → Type 0) → Type 0
-NoHandles p c Assigned = (i : ℕ) → has_kind (kinds_of p.globals) i Unboxed ≡ true → (Assigned i → ⊥) → slice_get c.globals (handle_global p.ranges i) ≡ Some (I32 minus_one)
+NoHandles p c Assigned = (i : ℕ) → has_kind (kinds_of p.globals) i Unboxed ≡ true → is_mixed (mixed_of p.globals) i ≡ false → (Assigned i → ⊥) → slice_get c.globals (handle_global p.ranges i) ≡ Some (I32 minus_one)
 
 module _ (p : Program) (c : Conf) (s : HostState) (here : AtStatement p c s) (Assigned : ℕ → Type 0) (no_handles : NoHandles p c Assigned) where
   pub no_text : (b : Bases) → b.parameters ≡ length here.at.function.kinds → (x : Slot) → IsLaned p here.at.function.kinds Assigned x → HasNoText p.ranges b c x
   no_text b e (Global true i) h =
       let n : ℕ = first_name p in
-      let none = no_handles i h.0 h.1 in (
+      let none = no_handles i h.0 h.1 h.2 in (
         none,
         λ z. unmarked_at (kinds_of p.globals) (drop n c.globals) here.by_kinds.marked i (i + i) refl h.0 (behind n c.globals (i + i) (handle_global p.ranges i) (omega arith) ∙ none)
             (behind n c.globals (suc (i + i)) (number_global p.ranges i) (omega arith) ∙ z),

@@ -142,7 +142,7 @@ module _ (m : ProgramForm) (P : Conf → Type 0) (bs : List Bool) (base : Conf) 
     unfolding emitted all_emitted
     dropped_flows d k next =
         sum_flows m P bs base fault y e zero d base.frame.locals sum (below_same y.bases zero base.frame.locals) (λ M b r.
-        set_flows m P bs base fault y x (form_of [] e) target refl next)
+        set_flows m P bs base fault y x (form_of [] e) target refl r next)
 
     quick_flows : {K : List LabelForm} (o : Option Sum) (d : ℕ) (k : Instructions) → sum_in (Set x e) ≡ o → ((gs L : List Word) → Flows m P bs base K gs L [] k) →
         Flows m P bs base K base.globals base.frame.locals [] (quickly_dropped y o (Set x e) d k)

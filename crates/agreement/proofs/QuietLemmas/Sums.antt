@@ -126,14 +126,18 @@ module _ (m : ProgramForm) (P : Conf → Type 0) (bs : List Bool) (base : Conf) 
   read_flows (Global false i) t L h bl next = absurd h
   read_flows (Parameter false i) t L h bl next = absurd h
 
-  pub set_flows : {K : List LabelForm} {gs L : List Word} {k : Instructions} (x : Slot) (f : Form) → HasNoText y.ranges b base x → gs ≡ base.globals →
+  pub set_flows : {K : List LabelForm} {gs L : List Word} {k : Instructions} (x : Slot) (f : Form) → HasNoText y.ranges b base x → gs ≡ base.globals → Ready b f zero L →
       ((hs M : List Word) → To K hs M k) → To K gs L (slot_set y true x f zero k)
-  set_flows (Global true i) f h e next =
+  set_flows (Global true i) (PrimitiveAnswer (answer.Of sort.Number)) h e ready next =
       get_global (λ w q. no_mark_flows m P bs base _ (λ z. h.1 (ap (λ g. slice_get g (number_global y.ranges i)) (sym e) ∙ q ∙ ap Some z))
       (get (λ v r. set_global (next _ _))))
-  set_flows (Parameter true i) f h e next = get (λ w q. set (λ z. next _ _))
-  set_flows (Global false i) f h e next = absurd h
-  set_flows (Parameter false i) f h e next = absurd h
+  set_flows (Global true i) NumberOrText h e ready next =
+      get_global (λ w q. no_mark_flows m P bs base _ (λ z. h.1 (ap (λ g. slice_get g (number_global y.ranges i)) (sym e) ∙ q ∙ ap Some z))
+      (get (λ v r. no_mark_flows m P bs base _ (λ z. ready (r ∙ ap Some z)) (get (λ u s. set_global (next _ _))))))
+  set_flows (Global true i) f h e ready next = absurd ready
+  set_flows (Parameter true i) f h e ready next = get (λ w q. set (λ z. next _ _))
+  set_flows (Global false i) f h e ready next = absurd h
+  set_flows (Parameter false i) f h e ready next = absurd h
 
   -- Sums of sources: where their words are near 0 both are added, and elsewhere all cases are asked for.
 

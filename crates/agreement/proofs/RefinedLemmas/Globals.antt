@@ -57,7 +57,7 @@ module _ {used : ℕ → Bool} {bs : List Bool} {u : Code} {K : List Label} {L :
   global_set_as x (v ∷ vs) (w ∷ ws) a once = within (has_room G.globals x && may) refl (nat_lt x (length c.globals))
     where
       may : Bool
-      may = may_come u.before u.names G.assigning x (cell_at G.globals x) v
+      may = may_come u.before u.bare G.assigning x (cell_at G.globals x) v
 
       after : Conf
       after = at ks vs K L F k (record G { globals = set G.globals x v; assigning = assigning_then v G.assigning })

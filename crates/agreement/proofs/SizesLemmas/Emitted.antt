@@ -259,7 +259,11 @@ module _ (y : Layout) (names : length y.names ≤ 2 ^ 24) (memory : length (memo
   module _ {k : Instructions} where
     set_fits : (o : Bool) (x : Slot) (f : Form) (t : ℕ) → Fits k → Fits (slot_set y o x f t k)
     set_fits o (Global false i) f t r = plain _ refl (plain _ refl (stored_fits o f t _ refl r))
-    set_fits o (Global true i) f t r = record { has = r.has }
+    set_fits o (Global true i) (PrimitiveAnswer a) t r = record { has = r.has }
+    set_fits o (Global true i) NumberOrText t r =
+        plain _ refl (plain _ refl (plain _ refl (choice (plain _ refl (plain _ refl (plain _ refl (plain _ refl none)))) none
+        (plain _ refl (plain _ refl (plain _ refl (choice (handle_fits o t _ refl none) none (plain _ refl (plain _ refl r)))))))))
+    set_fits o (Global true i) OptionalNumber t r = record { has = r.has }
     set_fits o (Parameter false i) f t r = plain _ refl (plain _ refl (stored_fits o f t _ refl r))
     set_fits o (Parameter true i) f t r = record { has = r.has }
 

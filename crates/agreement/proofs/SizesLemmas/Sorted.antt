@@ -15,7 +15,7 @@ use Rattle.sem_primitives.specs.declared.table.Primitive.TheVariants as row
 use Rattle.mid_program.specs.declared.mid.Operation.{Operation}
 use Rattle.mid_program.specs.declared.mid.Operation.TheVariants.{Host, Inline, AsNumber, FieldNumber}
 use Rattle.mid_program.specs.MidMeaning.{three_values}
-use Rattle.mid_program.specs.Mid.{Kind, Boxed, Unboxed, ArrayKind, Code, Do, Over, Compare, Call, Ask, AskLine, FileLine, Replace, Number, Text, Unset, Get, Set, Array, IsOpen, Choose, Seq, Let, Bound, Codes, End, At, Fixed, Fresh, Step, Eval, Block, If, Loop, Each, Break, Continue, Next, Exit, ExitWith, Return, Mark, Steps, NoStep, Then, Form, a_value, arguments, form_of, parameters_at}
+use Rattle.mid_program.specs.Mid.{Kind, Boxed, Unboxed, ArrayKind, Code, Do, Over, Compare, Call, Ask, AskLine, FileLine, Replace, Number, Text, Unset, Get, Set, Array, IsOpen, Choose, Seq, Let, Bound, Codes, End, At, Fixed, Fresh, Step, Eval, Block, If, Loop, Each, Break, Continue, Next, Exit, ExitWith, Return, Mark, Steps, NoStep, Then, Form, a_value, arguments, form_of, parameters_at, source_of}
 use Rattle.mid_program.specs.Sorted.{Context, all_sorted, all_values, are_enough, are_missing, count_of, fit_call, fit_row, fits, is_array_place, is_chosen, is_constant, is_done_here, is_dropped, is_given, is_kept, is_slot, is_tested, keeps_well, sorted, step_sorted, steps_sorted, stores_well, takes, test_sorted}
 use Rattle.lower_model.specs.Places.{room, rooms, step_room, steps_room}
 use Rattle.agreement.proofs.SizesLemmas.Small.{AllSmall, Small, SmallStep, SmallSteps}
@@ -221,8 +221,8 @@ module _ (c : Context) where
     code_small fs Unset s h = tt
     code_small fs (Get x) s h = tt
     code_small fs (Set x e) s h =
-        let s1 = and_parts (is_slot c x) (takes x (form_of fs e) && sorted c fs e) s in
-        code_small fs e (and_parts (takes x (form_of fs e)) (sorted c fs e) s1.1).1 h
+        let s1 = and_parts (is_slot c x) (takes c x (source_of e) (form_of fs e) && sorted c fs e) s in
+        code_small fs e (and_parts (takes c x (source_of e) (form_of fs e)) (sorted c fs e) s1.1).1 h
     code_small fs (Array a) s h = tt
     code_small fs (IsOpen i) s h = tt
     code_small fs (Choose q e a b) s h =

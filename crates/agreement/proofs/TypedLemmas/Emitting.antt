@@ -12,7 +12,7 @@ use Rattle.wasm_types.specs.Typing.{Context, CodeOk, done}
 use Rattle.mid_program.specs.declared.mid.Operation.{Operation}
 use Rattle.mid_program.specs.declared.mid.Operation.TheVariants.{Host, Inline, AsNumber, FieldNumber}
 use Rattle.mid_program.specs.MidMeaning.{three_values}
-use Rattle.mid_program.specs.Mid.{Kind, Program, Code, Do, Over, Compare, Call, Ask, AskLine, FileLine, Replace, Number, Text, Unset, Get, Set, Array, IsOpen, Choose, Seq, Let, Bound, Codes, End, At, Fixed, Fresh, Form, a_value, form_of, form_at, arguments, parameters_at}
+use Rattle.mid_program.specs.Mid.{Kind, Program, Code, Do, Over, Compare, Call, Ask, AskLine, FileLine, Replace, Number, Text, Unset, Get, Set, Array, IsOpen, Choose, Seq, Let, Bound, Codes, End, At, Fixed, Fresh, Form, a_value, form_of, form_at, arguments, parameters_at, source_of}
 use Rattle.mid_program.specs.Sorted.{context_of, calls_of, fits, fit_row, fit_call, all_values, are_enough, count_of, is_slot, takes, is_chosen, is_tested, is_dropped, is_kept, is_done_here, keeps_well, stores_well, are_missing, sorted, all_sorted}
 use Rattle.lower_model.specs.Arithmetic.{is_value}
 use Rattle.lower_model.specs.Emission.{Immediate, FieldOf, TextOf, NumberOf, immediate_in, immediate_pushed, immediate_or, emitted, all_emitted, performed, field_in, field_or, left_over, sequence_closed, keeping_closed, bound_read, text_let_go}
@@ -190,8 +190,8 @@ module _ {p : Program} {ks : List Kind} {b : Bases} {C : Context} (at : Stands p
     code_ok v fs ts Unset t w d q s h g x r = long (put (at.number t (omega (arith, h))) r)
     code_ok v fs ts (Get z) t w d q s h g x r = slot_read_ok at z s (omega (arith, h)) r
     code_ok v fs ts (Set z e) t w d q s h g x r =
-        let s1 = and_parts (is_slot (context_of p ks) z) (takes z (form_of fs e) && sorted (context_of p ks) fs e) s in
-        let s2 = and_parts (takes z (form_of fs e)) (sorted (context_of p ks) fs e) s1.1 in
+        let s1 = and_parts (is_slot (context_of p ks) z) (takes (context_of p ks) z (source_of e) (form_of fs e) && sorted (context_of p ks) fs e) s in
+        let s2 = and_parts (takes (context_of p ks) z (source_of e) (form_of fs e)) (sorted (context_of p ks) fs e) s1.1 in
         let he = room_there e in
         code_ok false fs ts e t w d q s2.1 h g x (slot_set_ok at v z (form_of fs e) s1.0 (omega (arith, h, he)) r)
     code_ok v fs ts (Array a) t w d q s h g x r = r

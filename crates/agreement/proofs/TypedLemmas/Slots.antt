@@ -13,7 +13,7 @@ use Rattle.wasm_types.specs.declared.instr.Simple.{Simple}
 use Rattle.mid_program.specs.Mid.{Kind, Boxed, Unboxed, ArrayKind, Slot, Global, Parameter, Program, Form, PrimitiveAnswer, NumberOrText, OptionalNumber}
 use Rattle.sem_scripts.specs.Names.{ArrayName, Numbered, Given}
 use Rattle.mid_program.specs.Sorted.{context_of, is_array_place, is_slot, kinds_of, arrays_among}
-use Rattle.lower_model.specs.Emission.{array_pushed, slot_read, handle_stored, value_stored, text_dropped, slot_set, assigned, assigned_by_number, pending_assigned, asked}
+use Rattle.lower_model.specs.Emission.{array_pushed, slot_read, handle_stored, value_stored, text_dropped, text_stored, slot_set, assigned, assigned_by_number, pending_assigned, asked}
 use Rattle.lower_model.specs.Functions.{layout_of}
 use Rattle.host_imports.specs.Names.{primitive_number}
 use Rattle.lower_model.specs.Places.{Bases, handle_global, array_name}
@@ -74,6 +74,14 @@ module _ {p : Program} {ks : List Kind} {b : Bases} {C : Context} (at : Stands p
     value_stored_ok o f lt s r = called ps (at.imported (OfPrimitive row.Uninit)) (takes s r)
 
   module _ {L : Labels} {k : Instructions} {ps rs : Stack} where
+    text_stored_ok : (o : Bool) (f : Form) {t i : ℕ} → t < b.temporaries → i < length (kinds_of p.globals) → CodeOk C L k ps rs →
+        CodeOk C L (text_stored (layout_of p b) o i f t k) ps rs
+    text_stored_ok o (PrimitiveAnswer a) lt li r = r
+    text_stored_ok o NumberOrText {t = t} {i = i} lt li r =
+        number_is_ok at (at.number t lt) (branched (handle_stored_ok o lt (writes_global (at.name_handle i li)) done) done r)
+    text_stored_ok o OptionalNumber lt li r = r
+
+  module _ {L : Labels} {k : Instructions} {ps rs : Stack} where
     pub slot_set_ok : (o : Bool) (x : Slot) (f : Form) {t : ℕ} → is_slot (context_of p ks) x ≡ true → t < b.temporaries → CodeOk C L k ps rs →
         CodeOk C L (slot_set (layout_of p b) o x f t k) ps rs
     slot_set_ok o (Global false i) f h lt r =
@@ -81,7 +89,7 @@ module _ {p : Program} {ks : List Kind} {b : Bases} {C : Context} (at : Stands p
         read g (called ps (at.imported Drop) (value_stored_ok o f lt (writes_global g) r))
     slot_set_ok o (Global true i) f {t = t} h lt r =
         let l = kind_below (kinds_of p.globals) i Unboxed h in
-        text_dropped_ok l (get (at.number t lt) (write (at.name_number i l) r))
+        text_dropped_ok l (text_stored_ok o f lt l (get (at.number t lt) (write (at.name_number i l) r)))
     slot_set_ok o (Parameter false i) f h lt r =
         let g = at.parameter i Boxed h in
         get g (called ps (at.imported Drop) (value_stored_ok o f lt (writes_local g) r))

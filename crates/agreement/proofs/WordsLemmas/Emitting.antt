@@ -26,10 +26,10 @@ use Rattle.mid_program.specs.declared.mid.Operation.{Operation}
 use Rattle.mid_program.specs.declared.mid.Operation.TheVariants.{Host, Inline, AsNumber, FieldNumber}
 use Rattle.mid_program.specs.MidMeaning.{three_values}
 use Rattle.sem_scripts.specs.Names.{ArrayName, Numbered, Given}
-use Rattle.mid_program.specs.Mid.{Kind, Boxed, Unboxed, ArrayKind, Slot, Global, Parameter, Code, Do, Over, Compare, Call, Ask, AskLine, FileLine, Replace, Number, Text, Unset, Get, Set, Array, IsOpen, Choose, Seq, Let, Bound, Codes, End, At, Fixed, Fresh, Form, PrimitiveAnswer, NumberOrText, OptionalNumber, a_value, arguments, form_at, form_of, parameters_at}
-use Rattle.mid_program.specs.Sorted.{Context, all_sorted, all_values, are_enough, are_missing, count_of, fit_call, fit_row, fits, is_chosen, is_constant, is_done_here, is_dropped, is_given, is_kept, is_number, is_operation, is_slot, is_tested, keeps_well, sorted, stores_well, takes}
+use Rattle.mid_program.specs.Mid.{Kind, Boxed, Unboxed, ArrayKind, Slot, Global, Parameter, Code, Do, Over, Compare, Call, Ask, AskLine, FileLine, Replace, Number, Text, Unset, Get, Set, Array, IsOpen, Choose, Seq, Let, Bound, Codes, End, At, Fixed, Fresh, Form, PrimitiveAnswer, NumberOrText, OptionalNumber, a_value, arguments, form_at, form_of, parameters_at, source_of}
+use Rattle.mid_program.specs.Sorted.{Context, all_sorted, all_values, are_enough, are_missing, count_of, fit_call, fit_row, fits, is_chosen, is_constant, is_done_here, is_dropped, is_given, is_kept, is_number, is_operation, is_slot, is_tested, keeps_well, sorted, stores_well, takes, is_bare, is_mixed}
 use Rattle.lower_model.specs.Arithmetic.{calculated, compared, field_checked, is_value, may_be_text, numbers_compared, texts_beside, values_compared, zeroed_if}
-use Rattle.lower_model.specs.Emission.{Layout, Immediate, FieldOf, TextOf, NumberOf, name_read, source_pushed, added, added_or, immediate_in, immediate_or, all_appended, all_boxed, all_converted, all_emitted, all_freed, all_given, all_given_pushed, all_pushed, array_meant, array_pushed, asked as asked_until, assigned, assigned_by_number, bound_read, dropped, emitted, field_in, field_or, function_number, handle_stored, keeping_closed, left_over, listed_asked, pending_assigned, performed, sequence_closed, slot_read, slot_set, tested, text_dropped, text_let_go, value_stored}
+use Rattle.lower_model.specs.Emission.{Layout, Immediate, FieldOf, TextOf, NumberOf, name_read, source_pushed, added, added_or, immediate_in, immediate_or, all_appended, all_boxed, all_converted, all_emitted, all_freed, all_given, all_given_pushed, all_pushed, array_meant, array_pushed, asked as asked_until, assigned, assigned_by_number, bound_read, dropped, emitted, field_in, field_or, function_number, handle_stored, keeping_closed, left_over, listed_asked, pending_assigned, performed, sequence_closed, slot_read, slot_set, text_stored, tested, text_dropped, text_let_go, value_stored}
 use Rattle.host_imports.specs.Imports.{import_answer, import_at, import_count, imports}
 use Rattle.host_imports.specs.Names.{import_number}
 use Rattle.lower_model.specs.Machine.{width}
@@ -83,11 +83,23 @@ tested_no_array (PrimitiveAnswer answer.Truth) e = refl
 tested_no_array NumberOrText e = refl
 tested_no_array f e = cc
 
-taken_no_array : (x : Slot) (f : Form) → takes x f ≡ true → fits f sort.Array ≡ false
-taken_no_array (Global true i) f e = number_no_array f e
-taken_no_array (Global false i) f e = value_no_array f e
-taken_no_array (Parameter true i) f e = number_no_array f e
-taken_no_array (Parameter false i) f e = value_no_array f e
+copy_no_array : (fs : List Form) (e : Code) (m : Bool) → (is_number (form_of fs e) || (m && is_bare (source_of e))) ≡ true → fits (form_of fs e) sort.Array ≡ false
+copy_no_array fs (Get (Global true i)) m h = refl
+copy_no_array fs (Get (Global false i)) m h = refl
+copy_no_array fs (Get (Parameter true i)) m h = refl
+copy_no_array fs (Get (Parameter false i)) m h = refl
+copy_no_array fs e m h = number_no_array (form_of fs e) (or_false (is_number (form_of fs e)) m h)
+  where
+    or_false : (a m : Bool) → (a || (m && false)) ≡ true → a ≡ true
+    or_false true m h = refl
+    or_false false true h = h
+    or_false false false h = h
+
+taken_no_array : (c : Context) (fs : List Form) (x : Slot) (e : Code) → takes c x (source_of e) (form_of fs e) ≡ true → fits (form_of fs e) sort.Array ≡ false
+taken_no_array c fs (Global true i) e h = copy_no_array fs e (is_mixed c.mixed i) h
+taken_no_array c fs (Global false i) e h = value_no_array (form_of fs e) h
+taken_no_array c fs (Parameter true i) e h = number_no_array (form_of fs e) h
+taken_no_array c fs (Parameter false i) e h = value_no_array (form_of fs e) h
 
 -- what is kept is no array
 abbrev pub NoArrays : List Form → Type 0
@@ -157,7 +169,7 @@ module _ (c : Context) where
   meant_other fs Unset k s n q = other_form fs Unset refl q
   meant_other fs (Get x) k s n q = other_form fs (Get x) (slot_no_array x fs) q
   meant_other fs (Set x e) k s n q =
-      other_form fs (Set x e) (taken_no_array x (form_of fs e) (and_parts (takes x (form_of fs e)) (sorted c fs e) (and_parts (is_slot c x) (takes x (form_of fs e) && sorted c fs e) s).1).0) q
+      other_form fs (Set x e) (taken_no_array c fs x e (and_parts (takes c x (source_of e) (form_of fs e)) (sorted c fs e) (and_parts (is_slot c x) (takes c x (source_of e) (form_of fs e) && sorted c fs e) s).1).0) q
   meant_other fs (IsOpen i) k s n q = other_form fs (IsOpen i) refl q
   meant_other fs (Choose o a e f) k s n q = other_form fs (Choose o a e f) (chosen_no_array o (and_parts (is_chosen o) _ s).0) q
   meant_other fs (Bound m i) k s n q = other_form fs (Bound m i) (k i) q
@@ -366,9 +378,15 @@ module _ (tells : Bool) (y : Layout) (sizes : ℕ → Option ℕ) where
     stored_spares o f t put p p0 = record { so = λ A. (refl, p A) }
 
   module _ {e : Bool} {k : Instructions} (r : Always e k) where
+    text_spares : (o : Bool) (i : ℕ) (f : Form) (t : ℕ) → Always e (text_stored y o i f t k)
+    text_spares o i (PrimitiveAnswer a) t = r
+    text_spares o i NumberOrText t = record { so = λ A. (handle_spares none o t (GlobalSet (handle_global y.ranges i)) [] (refl, tt), (tt, r.so [])) }
+    text_spares o i OptionalNumber t = r
+
+  module _ {e : Bool} {k : Instructions} (r : Always e k) where
     set_spares : (o : Bool) (x : Slot) (f : Form) (t : ℕ) → Always e (slot_set y o x f t k)
     set_spares o (Global false i) f t = record { so = λ A. (true, (λ q. named i), (refl, (stored_spares r o f t (GlobalSet (handle_global y.ranges i)) (λ B. (refl, r.so B)) (refl, tt)).so A)) }
-    set_spares o (Global true i) f t = dropped_text (record { so = λ A. (refl, r.so A) }) i
+    set_spares o (Global true i) f t = dropped_text (text_spares (record { so = λ A. (refl, r.so A) }) o i f t) i
     set_spares o (Parameter false i) f t = record { so = λ A. (refl, (stored_spares r o f t (LocalSet i) (λ B. r.so B) tt).so A) }
     set_spares o (Parameter true i) f t = record { so = λ A. r.so A }
 
@@ -687,7 +705,7 @@ module _ (tells : Bool) (y : Layout) (sizes : ℕ → Option ℕ) where
       emitted_spares r v fs ts Unset t w d n s q = record { so = λ A. r.so A }
       emitted_spares r v fs ts (Get x) t w d n s q = read_spares r x t
       emitted_spares r v fs ts (Set x e) t w d n s q =
-          emitted_spares (set_spares r v x (form_of fs e) t) false fs ts e t w d n (and_parts (takes x (form_of fs e)) (sorted c fs e) (and_parts (is_slot c x) (takes x (form_of fs e) && sorted c fs e) s).1).1 q
+          emitted_spares (set_spares r v x (form_of fs e) t) false fs ts e t w d n (and_parts (takes c x (source_of e) (form_of fs e)) (sorted c fs e) (and_parts (is_slot c x) (takes c x (source_of e) (form_of fs e) && sorted c fs e) s).1).1 q
       emitted_spares r v fs ts (Array a) t w d n s q = r
       emitted_spares r v fs ts (IsOpen i) t w d n s q = record { so = λ A. (false, (λ z. cc), r.so A) }
       emitted_spares r v fs ts (Choose o a e f) t w d n s q =

@@ -13,7 +13,7 @@ use Rattle.agreement.specs.Quiet.Statements.{IsNumeric, IsSo, added, constant, g
 
 module _ (p : Program) (kinds : List Kind) (A B : ℕ → Type 0) (less : (i : ℕ) → B i → A i) where
   pub laned_so : (x : Slot) → IsLaned p kinds A x → IsLaned p kinds B x
-  laned_so (Global true i) h = (h.0, λ q. h.1 (less i q))
+  laned_so (Global true i) h = (h.0, h.1, λ q. h.2 (less i q))
   laned_so (Parameter true i) h = h
   laned_so (Global false i) h = absurd h
   laned_so (Parameter false i) h = absurd h
