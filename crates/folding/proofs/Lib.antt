@@ -2,5 +2,5 @@ mod Constants
 pub mod Reduced
 pub mod Folds
 mod Left
-mod Sorted
+pub mod Sorted
 mod Views

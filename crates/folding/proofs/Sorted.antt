@@ -1,15 +1,16 @@
 -- Folded code is well sorted where the code was.
-use Rattle.std.proofs.Common.{◌≡◌, ℕ, ◌^◌, Bool, true, false, ◌&&◌, nat_le, unsigned_abs, List, [], ◌∷◌, ◌++◌, map, Option, Some, None, refl, sym, ap, ◌∙◌, subst}
+use Rattle.std.proofs.Common.{◌≡◌, ℕ, ◌^◌, Bool, true, false, ◌&&◌, ◌||◌, nat_le, unsigned_abs, List, [], ◌∷◌, ◌++◌, map, Option, Some, None, refl, sym, ap, ◌∙◌, subst}
 use Rattle.std.proofs.lemmas.Bool.{and_parts, and_from}
 use Rattle.std.proofs.lemmas.Float.{T_from_true}
 use Rattle.sem_primitives.specs.Numbers.{Number as AnyNumber}
 use Rattle.sem_primitives.specs.declared.table.Primitive.TheVariants.{Pow}
 use Rattle.mid_program.specs.declared.mid.Operation.{Operation}
 use Rattle.mid_program.specs.declared.mid.Operation.TheVariants.{Host, Inline, AsNumber, FieldNumber}
-use Rattle.mid_program.specs.Mid.{Kind, Code, Do, Codes, End, At, Steps, Declared, Routine, Program, Form, PrimitiveAnswer, a_number, answer_by, form_of}
-use Rattle.mid_program.specs.Sorted.{Context, Held, held_after, held_after_all, sorted, all_sorted, steps_sorted, context_of, routines_sorted, announced_names, all_differ, parts_sorted, is_sorted, IsSorted}
+use Rattle.mid_program.specs.Mid.{Kind, Slot, Global, Parameter, Code, Do, Codes, End, At, Steps, Declared, Routine, Program, Form, PrimitiveAnswer, a_number, answer_by, form_of, source_of}
+use Rattle.mid_program.specs.Alike.{erased}
+use Rattle.mid_program.specs.Sorted.{Context, takes, is_bare, is_mixed, Held, held_after, held_after_all, sorted, all_sorted, steps_sorted, context_of, routines_sorted, announced_names, all_differ, parts_sorted, is_sorted, IsSorted}
 use Rattle.mid_program.specs.Stores.{Store, Every, steps_stores}
-use Rattle.mid_program.proofs.Sorted.{Keeps, Stays, from_T, steps_rewritten}
+use Rattle.mid_program.proofs.Sorted.{Keeps, Stays, copy_of, from_T, number_alike, steps_rewritten, value_alike}
 use Rattle.folding.specs.Folding.{constant, of_one, of_two, value_of, reduced_to, reduced, same, folded_steps, folded_routine, fold}
 use Rattle.folding.proofs.Constants.{constant_is}
 use Rattle.folding.proofs.Folds.{calls_kept}
@@ -40,6 +41,10 @@ form_by : (fs : List Form) (o : Operation) (es : Codes) (v : Option AnyNumber) �
 form_by fs o es (Some r) h = sym (constants_by o es r h).answers
 form_by fs o es None h = refl
 
+pub source_by : (o : Operation) (es : Codes) (v : Option AnyNumber) → source_of (reduced_to v o es) ≡ None
+source_by o es (Some r) = refl
+source_by o es None = refl
+
 held_by : (i : ℕ) (g : Held) (o : Operation) (es : Codes) (v : Option AnyNumber) → value_of o es ≡ v → held_after i (reduced_to v o es) g ≡ held_after_all i es g
 held_by i g o es (Some r) h = sym ((constants_by o es r h).moves i g)
 held_by i g o es None h = refl
@@ -51,7 +56,17 @@ sorted_by c fs o es None h = h
 
 -- names stay, and so does what they may take
 keeps : Keeps same reduced
-keeps = record { slot_forms = λ x. refl; forms = λ fs o es. form_by fs o es (value_of o es) refl; moves = λ i h o es. held_by i h o es (value_of o es) refl }
+keeps = record { slot_forms = λ x. refl; forms = λ fs o es. form_by fs o es (value_of o es) refl; sources = λ o es. source_by o es (value_of o es); moves = λ i h o es. held_by i h o es (value_of o es) refl }
+
+copy_same : (o : Option Slot) → copy_of same o ≡ o
+copy_same None = refl
+copy_same (Some x) = refl
+
+taken_alike : (c : Context) (x : Slot) (o : Option Slot) (f g : Form) → erased f ≡ erased g → takes c x o f ≡ true → takes c x o g ≡ true
+taken_alike c (Global true i) o f g a h = ap (λ (b : Bool). b || (is_mixed c.mixed i && is_bare o)) (number_alike f g a) ∙ h
+taken_alike c (Global false i) o f g a h = value_alike f g a ∙ h
+taken_alike c (Parameter true i) o f g a h = number_alike f g a ∙ h
+taken_alike c (Parameter false i) o f g a h = value_alike f g a ∙ h
 
 abbrev Anything : Store → Type 0
 Anything s = Unit {0}
@@ -63,7 +78,7 @@ stays c = record {
   calls = refl;
   slot = λ x h. h;
   array = λ a h. h;
-  stored = λ x f h o. h;
+  stored = λ x o f g a h w. ap (λ (p : Option Slot). takes c x p g) (copy_same o) ∙ taken_alike c x o f g a h;
   given = λ f fs es h o. h;
   does = λ fs o es h. sorted_by c fs o es (value_of o es) h;
 }

@@ -50,9 +50,9 @@ heads_alike gs ps [] f = tt
 heads_alike gs ps (r ∷ rs) zero = kinds_alike (is_unboxed (ps zero)) r.parameters
 heads_alike gs ps (r ∷ rs) (suc f) = heads_alike gs (λ i. ps (suc i)) rs f
 
-pub names_kept : (u : ℕ → Bool) (ds : List Declared) → map global_name ds ≡ map global_name (globals_with u ds)
-names_kept u [] = refl
-names_kept u (d ∷ ds) = λ i. record { name = d.name; is_array = same_many (u zero) d.kind i } ∷ names_kept (λ i. u (suc i)) ds i
+pub names_kept : (u n : ℕ → Bool) (ds : List Declared) → map global_name ds ≡ map global_name (globals_with u n ds)
+names_kept u n [] = refl
+names_kept u n (d ∷ ds) = λ i. record { name = d.name; is_array = same_many (u zero) d.kind i } ∷ names_kept (λ i. u (suc i)) (λ i. n (suc i)) ds i
 
 pub functions_kept : (gs : List Kind) (ps : ℕ → List Kind) (rs : List Routine) → map routine_name rs ≡ map routine_name (routines_with gs ps rs)
 functions_kept gs ps [] = refl
@@ -76,7 +76,7 @@ rewritten l p = record {
   same_operations = operations_stay p.texts (calls_of (apply l p));
   texts = refl;
   heads = heads_alike l.globals (parameters_at l.parameters) p.routines;
-  names = names_kept (is_unboxed l.globals) p.globals;
+  names = names_kept (is_unboxed l.globals) (is_unboxed l.numbers) p.globals;
   functions = functions_kept l.globals (parameters_at l.parameters) p.routines;
   bodies = bodies_kept l.globals (parameters_at l.parameters) p.routines;
   begin = refl;

@@ -4,10 +4,11 @@ use Rattle.sem_primitives.specs.Numbers.{Number as AnyNumber}
 use Rattle.sem_primitives.specs.declared.table.Primitive.TheVariants.{Pow}
 use Rattle.mid_program.specs.declared.mid.Operation.{Operation}
 use Rattle.mid_program.specs.declared.mid.Operation.TheVariants.{AsNumber, FieldNumber, Host, Inline}
-use Rattle.mid_program.specs.Mid.{PrimitiveAnswer, Array, Ask, AskLine, At, Block, Bound, Break, Call, Choose, Code, Codes, Compare, Continue, Do, Each, End, Eval, Exit, ExitWith, FileLine, Fixed, Form, Fresh, Get, If, IsOpen, Let, Loop, Mark, Next, NoStep, Number, Over, Replace, Return, Seq, Set, Step, Steps, Text, Then, Unset, a_number, a_value, answer_by, form_of}
+use Rattle.mid_program.specs.Mid.{PrimitiveAnswer, Array, Ask, AskLine, At, Block, Bound, Break, Call, Choose, Code, Codes, Compare, Continue, Do, Each, End, Eval, Exit, ExitWith, FileLine, Fixed, Form, Fresh, Get, If, IsOpen, Let, Loop, Mark, Next, NoStep, Number, Over, Replace, Return, Seq, Set, Step, Steps, Text, Then, Unset, a_number, a_value, answer_by, form_of, source_of}
 use Rattle.mid_program.specs.Rewriting.{code_in, codes_in, step_in, steps_in}
 use Rattle.mid_program.specs.Stores.{Given, Into, Store, step_stores, steps_stores, stores, stores_given, stores_in}
 use Rattle.folding.specs.Folding.{constant, of_one, of_two, reduced, reduced_to, same, value_of}
+use Rattle.folding.proofs.Sorted.{source_by}
 
 -- an operation that is computed: its operands are constants, which store nothing, and its answer is a number
 
@@ -71,6 +72,11 @@ form_same fs (Seq a b) = form_same fs b
 form_same fs (Let a b) = ap (λ (f : Form). form_of (f ∷ fs) (F b)) (form_same fs a) ∙ form_same (form_of fs a ∷ fs) b
 form_same fs (Bound m i) = refl
 
+source_same : (e : Code) → source_of (F e) ≡ source_of e
+source_same (Do o es) = source_by o (Fs es) (value_of o (Fs es))
+source_same (Get x) = refl
+source_same e = refl
+
 mutual
   stores_same : (fs : List Form) (e : Code) → stores fs (F e) ≡ stores fs e
   stores_same fs (Do o es) = stores_by fs o (Fs es) (value_of o (Fs es)) refl ∙ operands_same fs es
@@ -85,7 +91,7 @@ mutual
   stores_same fs (Text i) = refl
   stores_same fs Unset = refl
   stores_same fs (Get x) = refl
-  stores_same fs (Set x e) = λ j. stores_same fs e j ++ (Into x (form_same fs e j) ∷ [])
+  stores_same fs (Set x e) = λ j. stores_same fs e j ++ (Into x (source_same e j) (form_same fs e j) ∷ [])
   stores_same fs (Array a) = refl
   stores_same fs (IsOpen i) = refl
   stores_same fs (Choose s c a b) = λ j. stores_same fs c j ++ (stores_same fs a j ++ stores_same fs b j)

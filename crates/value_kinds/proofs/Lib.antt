@@ -1,7 +1,9 @@
 pub mod Applies
 mod Views
+mod Throughout
 mod Finds
 mod Closed
+pub mod Sources
 mod Sorted
 mod Sound
 mod Walked

@@ -1,11 +1,11 @@
 -- The kinds of names in the code of a script, and in code with lanes.
-use Rattle.std.proofs.Common.{◌≡◌, ℕ, zero, suc, Bool, true, List, [], ◌∷◌, Option, Some, None, map, refl, ap}
+use Rattle.std.proofs.Common.{◌≡◌, ℕ, zero, suc, Bool, true, false, not, ◌&&◌, List, [], ◌∷◌, Option, Some, None, map, refl, ap}
 use Rattle.std.specs.Prelude.{slice_get}
 use Rattle.std.proofs.lemmas.Option.{none-some}
 use Rattle.folding.specs.Folding.{folded_routine}
 use Rattle.mid_program.specs.Mid.{Boxed, Declared, Kind, ArrayKind, Routine, Unboxed, parameters_at}
 use Rattle.sem_scripts.specs.Names.{Function, Name, Resolved, function_at}
-use Rattle.mid_program.specs.Sorted.{has_kind, kinds_of, scalar_kind}
+use Rattle.mid_program.specs.Sorted.{has_kind, is_mixed, kinds_of, mixed_of, scalar_kind}
 use Rattle.mid_program.specs.Translation.{declared_code, kind_of, routine_code}
 use Rattle.value_kinds.specs.Applied.{globals_with, is_unboxed, kind_with, kinds_with, routines_with}
 use Rattle.value_kinds.specs.Found.{is_scalar}
@@ -55,10 +55,20 @@ later ArrayKind ks i h = h
 later Boxed ks i h = h
 later Unboxed ks i h = h
 
-pub globals_unboxed : (u : ℕ → Bool) (ds : List Declared) (i : ℕ) → u i ≡ true → is_scalar (kinds_of ds) i ≡ true → has_kind (kinds_of (globals_with u ds)) i Unboxed ≡ true
-globals_unboxed u [] i e s = clash s
-globals_unboxed u (d ∷ ds) zero e s = kind_unboxed (u zero) d.kind (kinds_of ds) (kinds_of (globals_with (λ j. u (suc j)) ds)) e s
-globals_unboxed u (d ∷ ds) (suc i) e s = globals_unboxed (λ j. u (suc j)) ds i e (later d.kind (kinds_of ds) i s)
+pub globals_unboxed : (u n : ℕ → Bool) (ds : List Declared) (i : ℕ) → u i ≡ true → is_scalar (kinds_of ds) i ≡ true → has_kind (kinds_of (globals_with u n ds)) i Unboxed ≡ true
+globals_unboxed u n [] i e s = clash s
+globals_unboxed u n (d ∷ ds) zero e s = kind_unboxed (u zero) d.kind (kinds_of ds) (kinds_of (globals_with (λ j. u (suc j)) (λ j. n (suc j)) ds)) e s
+globals_unboxed u n (d ∷ ds) (suc i) e s = globals_unboxed (λ j. u (suc j)) (λ j. n (suc j)) ds i e (later d.kind (kinds_of ds) i s)
+
+without : (u n : Bool) → n ≡ true → (u && not n) ≡ false
+without true true h = refl
+without true false h = clash h
+without false n h = refl
+
+pub globals_not_mixed : (u n : ℕ → Bool) (ds : List Declared) (i : ℕ) → n i ≡ true → is_mixed (mixed_of (globals_with u n ds)) i ≡ false
+globals_not_mixed u n [] i e = refl
+globals_not_mixed u n (d ∷ ds) zero e = without (u zero) (n zero) e
+globals_not_mixed u n (d ∷ ds) (suc i) e = globals_not_mixed (λ j. u (suc j)) (λ j. n (suc j)) ds i e
 
 kinds_unboxed : (u : ℕ → Bool) (ks : List Kind) (i : ℕ) → u i ≡ true → is_scalar ks i ≡ true → has_kind (kinds_with u ks) i Unboxed ≡ true
 kinds_unboxed u [] i e s = clash s

@@ -13,12 +13,11 @@ use Rattle.mid_program.specs.Stores as code
 use Rattle.folding.specs.Folding.{fold, folded_routine, folded_steps}
 use Rattle.value_kinds.specs.Found.{InRoutines, Throughout}
 use Rattle.value_kinds.specs.Lanes.{function_count}
-use Rattle.value_kinds.specs.Stores.{Scalar, Store, Text, functions_stores, into, items_stores, maybe_plain_stores, maybe_stores, pattern_stores, plain_stores, script_stores, stmt_stores, stmts_stores, stores}
-use Rattle.value_kinds.proofs.Expressions.{AllFit, CodeFits, Fit, alone, both, code_fit, codes_fit, first, key_fit, second, store_fit, three}
+use Rattle.value_kinds.specs.Stores.{Store, Text, functions_stores, into, items_stores, maybe_plain_stores, maybe_stores, pattern_stores, plain_stores, script_stores, stmt_stores, stmts_stores, stores}
+use Rattle.value_kinds.proofs.Expressions.{AllFit, CodeFits, Fit, Taker, alone, both, code_fit, codes_fit, first, key_fit, no_text, second, store_fit, three}
 use Rattle.value_kinds.proofs.Folded.{steps_same}
-use Rattle.value_kinds.proofs.Forms.{clash}
 
-module _ (x : Scalar) (g : ℕ) (texts : List (List ℕ)) (scope : Scope) where
+module _ (x : Taker) (g : ℕ) (texts : List (List ℕ)) (scope : Scope) where
   abbrev S : Tree → List Store
   S t = stores g scope t
 
@@ -50,7 +49,7 @@ module _ (x : Scalar) (g : ℕ) (texts : List (List ℕ)) (scope : Scope) where
 
   -- a key is a text
   key_stored : (k : List ℕ) → Ok (into g scope (Var k) Text) → Fit x g (code.stores (a_value ∷ []) (store_variable_code (variable_of scope k) (moved 0)))
-  key_stored k h = store_fit x g (NameTarget (variable_of scope k)) 0 (moved 0) (a_value ∷ []) tt (λ e. clash (h.0 e))
+  key_stored k h = store_fit x g (NameTarget (variable_of scope k)) 0 (moved 0) (a_value ∷ []) tt (λ e. no_text x (h.0 e))
 
   mutual
     unfolding step_code steps_code
@@ -150,7 +149,7 @@ module _ (x : Scalar) (g : ℕ) (texts : List (List ℕ)) (scope : Scope) where
 
 -- whole scripts, whose constants are computed
 
-module _ (x : Scalar) (script : Resolved) where
+module _ (x : Taker) (script : Resolved) where
   abbrev texts : List (List ℕ)
   texts = texts_of_script script
 

@@ -22,7 +22,7 @@ use Rattle.mid_program.specs.declared.program.Declared.{Declared}
 use Rattle.mid_program.specs.declared.program.Kind.{Kind}
 use Rattle.mid_program.specs.View.{view_declared, view_kind, view_routine}
 use Rattle.mid_program.specs.Sorted.{same_kind}
-use Rattle.value_kinds.specs.Applied.{globals_with, is_unboxed, kind_with, kinds_with, routine_with, routines_with}
+use Rattle.value_kinds.specs.Applied.{global_with, globals_with, is_unboxed, kind_with, kinds_with, routine_with, routines_with}
 
 row_views : {n : _} (k : Row_of-Operand n) → view_row k ≡ views (items-the_row-Operand n k)
 row_views end_of-Operand = refl
@@ -161,16 +161,19 @@ kinds_done u (suc i) (x ∷ xs) (y ∷ ys) e h = λ j. h.0 j ∷ kinds_done (λ 
 kinds_done u (suc i) (x ∷ xs) [] e h = absurd h
 kinds_done u (suc i) [] ys e h = absurd cc
 
-abbrev pub GlobalDone : (ℕ → Bool) → ℕ → Declared → Declared → Type 0
-GlobalDone u k x y = ◌≡◌ {A = plain.Declared} (view_declared x) (record (view_declared y) { kind = kind_with (u k) (view_kind y.kind) })
+abbrev pub GlobalDone : (u n : ℕ → Bool) → ℕ → Declared → Declared → Type 0
+GlobalDone u n k x y = view_declared x ≡ global_with (u k) (n k) (view_declared y)
 
-pub globals_done : (u : ℕ → Bool) (i : ℕ) (xs ys : List Declared) → i ≡ length xs → Done (GlobalDone u) i xs ys → map view_declared xs ≡ globals_with u (map view_declared ys)
-globals_done u zero [] [] e h = refl
-globals_done u zero [] (y ∷ ys) e h = absurd cc
-globals_done u zero (x ∷ xs) ys e h = absurd cc
-globals_done u (suc i) (x ∷ xs) (y ∷ ys) e h = λ j. h.0 j ∷ globals_done (λ k. u (suc k)) i xs ys (omega (arith, e)) h.1 j
-globals_done u (suc i) (x ∷ xs) [] e h = absurd h
-globals_done u (suc i) [] ys e h = absurd cc
+pub global_step : (u n : ℕ → Bool) (i p : ℕ) (b c : Bool) (x y : Declared) → b ≡ u p → c ≡ n p → p ≡ i → view_declared x ≡ global_with b c (view_declared y) → view_declared x ≡ global_with (u i) (n i) (view_declared y)
+global_step u n i p b c x y h g k e = e ∙ (λ j. global_with ((h ∙ ap u k) j) ((g ∙ ap n k) j) (view_declared y))
+
+pub globals_done : (u n : ℕ → Bool) (i : ℕ) (xs ys : List Declared) → i ≡ length xs → Done (GlobalDone u n) i xs ys → map view_declared xs ≡ globals_with u n (map view_declared ys)
+globals_done u n zero [] [] e h = refl
+globals_done u n zero [] (y ∷ ys) e h = absurd cc
+globals_done u n zero (x ∷ xs) ys e h = absurd cc
+globals_done u n (suc i) (x ∷ xs) (y ∷ ys) e h = λ j. h.0 j ∷ globals_done (λ k. u (suc k)) (λ k. n (suc k)) i xs ys (omega (arith, e)) h.1 j
+globals_done u n (suc i) (x ∷ xs) [] e h = absurd h
+globals_done u n (suc i) [] ys e h = absurd cc
 
 abbrev pub RoutineDone : List plain.Kind → (ℕ → List plain.Kind) → ℕ → Routine → Routine → Type 0
 RoutineDone gs ps k x y = view_routine x ≡ routine_with gs (ps k) (view_routine y)

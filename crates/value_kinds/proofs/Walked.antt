@@ -1,8 +1,8 @@
 -- The walk over code, part after part.
-use Rattle.std.proofs.Common.{◌≡◌, ℕ, suc, ◌+◌, ◌<◌, List, [], ◌∷◌, ◌++◌, append_assoc, get_or, drop, length, map, add-one, append-nil, refl, sym, ap, ◌∙◌}
+use Rattle.std.proofs.Common.{◌≡◌, ℕ, suc, ◌+◌, ◌<◌, List, [], ◌∷◌, ◌++◌, append_assoc, get_or, drop, length, map, Option, add-one, append-nil, refl, sym, ap, ◌∙◌}
 use Rattle.std.proofs.Math.Seq.{drop-cons}
 use Rattle.mid_program.specs.Mid as plain
-use Rattle.mid_program.specs.Mid.{Code, Codes, End, Form, form_of}
+use Rattle.mid_program.specs.Mid.{Code, Codes, End, Form, form_of, source_of}
 use Rattle.mid_program.specs.ViewCode.{before, joined, view, view_step, view_steps, views}
 use Rattle.mid_program.specs.declared.code.Code.{Code as Owned}
 use Rattle.mid_program.specs.declared.code.Operand.{Operand}
@@ -12,12 +12,12 @@ use Rattle.value_kinds.specs.Lanes.{Lanes, all_marked, marked}
 use Rattle.mid_program.specs.Stores.{Given, Into, Store, step_stores, steps_stores, stores, stores_given, stores_in}
 use Rattle.value_kinds.specs.Walks.{Walk, after, stores_each}
 
-marked_twice : (g : ℕ) (l : Lanes) (xs ys : List Store) → all_marked g (all_marked g l xs) ys ≡ all_marked g l (xs ++ ys)
-marked_twice g l [] ys = refl
-marked_twice g l (x ∷ xs) ys = marked_twice g (marked g l x) xs ys
+marked_twice : (n : Lanes) (g : ℕ) (l : Lanes) (xs ys : List Store) → all_marked n g (all_marked n g l xs) ys ≡ all_marked n g l (xs ++ ys)
+marked_twice n g l [] ys = refl
+marked_twice n g l (x ∷ xs) ys = marked_twice n g (marked n g l x) xs ys
 
 after_twice : (w : Walk) (xs ys : List Store) → after (after w xs) ys ≡ after w (xs ++ ys)
-after_twice w xs ys = λ i. record w { lanes = marked_twice w.function w.lanes xs ys i }
+after_twice w xs ys = λ i. record w { lanes = marked_twice w.numbers w.function w.lanes xs ys i }
 
 -- two parts
 pub two_walked : (w s t : Walk) (xs ys : List Store) → s ≡ after w xs → t ≡ after s ys → t ≡ after w (xs ++ ys)
@@ -26,8 +26,8 @@ two_walked w s t xs ys e f = f ∙ ap (λ (u : Walk). after u ys) e ∙ after_tw
 pub let_walked : (fs : List Form) (w s t : Walk) (f : Form) (a b : Code) → f ≡ form_of fs a → s ≡ after w (stores fs a) → t ≡ after s (stores (f ∷ fs) b) → t ≡ after w (stores fs (plain.Let a b))
 let_walked fs w s t f a b h e g = two_walked w s t (stores fs a) (stores (form_of fs a ∷ fs) b) e (g ∙ ap (λ (x : Form). after s (stores (x ∷ fs) b)) h)
 
-pub set_walked : (fs : List Form) (w s t : Walk) (f : Form) (x : plain.Slot) (a : Code) → f ≡ form_of fs a → s ≡ after w (stores fs a) → t ≡ after s (Into x f ∷ []) → t ≡ after w (stores fs (plain.Set x a))
-set_walked fs w s t f x a h e g = two_walked w s t (stores fs a) (Into x (form_of fs a) ∷ []) e (g ∙ ap (λ (y : Form). after s (Into x y ∷ [])) h)
+pub set_walked : (fs : List Form) (w s t : Walk) (f : Form) (x : plain.Slot) (a : Code) (o : Option plain.Slot) → o ≡ source_of a → f ≡ form_of fs a → s ≡ after w (stores fs a) → t ≡ after s (Into x o f ∷ []) → t ≡ after w (stores fs (plain.Set x a))
+set_walked fs w s t f x a o d h e g = two_walked w s t (stores fs a) (Into x (source_of a) (form_of fs a) ∷ []) e (g ∙ (λ i. after s (Into x (d i) (h i) ∷ [])))
 
 pub given_walked : (fs : List Form) (w s t : Walk) (f : Form) (g i : ℕ) (a : Code) → f ≡ form_of fs a → s ≡ after w (stores fs a) → t ≡ after s (Given g i f ∷ []) →
     t ≡ after w (stores_given g i fs (plain.At a End))

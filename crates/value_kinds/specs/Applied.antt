@@ -1,5 +1,5 @@
 -- A program with lanes at its names.
-use Rattle.std.specs.Prelude.{ℕ, zero, suc, Bool, List, [], ◌∷◌}
+use Rattle.std.specs.Prelude.{ℕ, zero, suc, Bool, not, ◌&&◌, List, [], ◌∷◌}
 use Rattle.mid_program.specs.Mid.{Kind, Boxed, Unboxed, ArrayKind, Slot, Global, Parameter, Do, Steps, Declared, Routine, Program, parameters_at}
 use Rattle.mid_program.specs.Sorted.{has_kind, scalar_kind}
 use Rattle.mid_program.specs.Rewriting.{steps_in}
@@ -23,9 +23,13 @@ abbrev pub kinds_with : (ℕ → Bool) → List Kind → List Kind
 kinds_with u [] = []
 kinds_with u (k ∷ ks) = kind_with (u zero) k ∷ kinds_with (λ i. u (suc i)) ks
 
-abbrev pub globals_with : (ℕ → Bool) → List Declared → List Declared
-globals_with u [] = []
-globals_with u (d ∷ ds) = (record d { kind = kind_with (u zero) d.kind }) ∷ globals_with (λ i. u (suc i)) ds
+-- whether it is unboxed, and whether numbers alone are stored into it: else it takes copies too
+abbrev pub global_with : (unboxed numbers : Bool) → Declared → Declared
+global_with u n d = record d { kind = kind_with u d.kind; mixed = u && not n }
+
+abbrev pub globals_with : (unboxed numbers : ℕ → Bool) → List Declared → List Declared
+globals_with u n [] = []
+globals_with u n (d ∷ ds) = global_with (u zero) (n zero) d ∷ globals_with (λ i. u (suc i)) (λ i. n (suc i)) ds
 
 abbrev pub steps_with : (globals parameters : List Kind) → Steps → Steps
 steps_with gs ps ss = steps_in (slot_in gs ps) Do ss
@@ -39,7 +43,7 @@ routines_with gs ps (r ∷ rs) = routine_with gs (ps zero) r ∷ routines_with g
 
 abbrev pub apply : Lanes → Program → Program
 apply l p = record p {
-  globals = globals_with (is_unboxed l.globals) p.globals;
+  globals = globals_with (is_unboxed l.globals) (is_unboxed l.numbers) p.globals;
   routines = routines_with l.globals (parameters_at l.parameters) p.routines;
   begin = steps_with l.globals [] p.begin;
   items = steps_with l.globals [] p.items;

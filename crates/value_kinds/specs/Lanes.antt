@@ -1,13 +1,15 @@
--- Which names are unboxed: a scalar into which the script stores numbers alone, as arguments too. What the command line assigns to a global stays a
--- text until then.
-use Rattle.std.specs.Prelude.{ℕ, zero, suc, Bool, true, false, List, [], ◌∷◌, map}
-use Rattle.mid_program.specs.Mid.{Kind, Boxed, Unboxed, ArrayKind, Global, Parameter, Routine, Program, Form, OptionalNumber}
-use Rattle.mid_program.specs.Sorted.{is_number, kinds_of, calls_of}
+-- Which names are unboxed: a scalar into which the script stores numbers alone, as arguments too, and a global into which it stores copies of such
+-- scalars besides. What the command line assigns to a global stays a text until then, and so does a copy of it.
+use Rattle.std.specs.Prelude.{ℕ, zero, suc, Bool, true, false, ◌||◌, List, [], ◌∷◌, Option, Some, None, map}
+use Rattle.mid_program.specs.Mid.{Kind, Boxed, Unboxed, ArrayKind, Slot, Global, Parameter, Routine, Program, Form, OptionalNumber, parameters_at}
+use Rattle.mid_program.specs.Sorted.{has_kind, is_number, kinds_of, calls_of}
 use Rattle.mid_program.specs.Stores.{Store, Into, Given, steps_stores}
 
 -- by the numbers of the globals, and for each function by those of its parameters. An unboxed global has a boxed twin, since the command line may
 -- give it a text; an unboxed parameter is a number, or nothing yet
 pub record Lanes : Type 0 where
+  -- the globals into which numbers alone are stored
+  pub numbers : List Kind
   pub globals : List Kind
   pub parameters : List (List Kind)
 
@@ -42,31 +44,48 @@ abbrev pub unless : Bool → Lanes → Lanes → Lanes
 unless true l m = l
 unless false l m = m
 
--- a name is boxed once anything else is stored into it; the code stands in this function
-abbrev pub marked : ℕ → Lanes → Store → Lanes
-marked g l (Into (Global u i) f) = unless (is_number f) l (record l { globals = close_at l.globals i })
-marked g l (Into (Parameter u i) f) = unless (is_number f) l (record l { parameters = close_in l.parameters g i })
-marked g l (Given h i f) = unless (is_plain f) l (record l { parameters = close_in l.parameters h i })
+-- a name whose value is copied: whether it is one of those that are unboxed in n; the code stands in the g-th function
+abbrev pub is_copy : (n : Lanes) → (g : ℕ) → Option Slot → Bool
+is_copy n g None = false
+is_copy n g (Some (Global u i)) = has_kind n.globals i Unboxed
+is_copy n g (Some (Parameter u i)) = has_kind (parameters_at n.parameters g) i Unboxed
 
-abbrev pub all_marked : ℕ → Lanes → List Store → Lanes
-all_marked g l [] = l
-all_marked g l (s ∷ ss) = all_marked g (marked g l s) ss
+-- a name is boxed once anything else is stored into it than a number, or, for a global, than a copy of a name that is unboxed in n
+abbrev pub marked : (n : Lanes) → (g : ℕ) → Lanes → Store → Lanes
+marked n g l (Into (Global u i) o f) = unless (is_number f || is_copy n g o) l (record l { globals = close_at l.globals i })
+marked n g l (Into (Parameter u i) o f) = unless (is_number f) l (record l { parameters = close_in l.parameters g i })
+marked n g l (Given h i f) = unless (is_plain f) l (record l { parameters = close_in l.parameters h i })
+
+abbrev pub all_marked : (n : Lanes) → (g : ℕ) → Lanes → List Store → Lanes
+all_marked n g l [] = l
+all_marked n g l (s ∷ ss) = all_marked n g (marked n g l s) ss
 
 -- the functions from the g-th on
-abbrev pub routines_marked : ℕ → Lanes → List Routine → Lanes
-routines_marked g l [] = l
-routines_marked g l (r ∷ rs) = routines_marked (suc g) (all_marked g l (steps_stores r.body)) rs
+abbrev pub routines_marked : (n : Lanes) → (g : ℕ) → Lanes → List Routine → Lanes
+routines_marked n g l [] = l
+routines_marked n g l (r ∷ rs) = routines_marked n (suc g) (all_marked n g l (steps_stores r.body)) rs
 
 abbrev pub at_first : Program → Lanes
-at_first p = record { globals = map opened (kinds_of p.globals); parameters = map (map opened) (calls_of p) }
+at_first p = record { numbers = []; globals = map opened (kinds_of p.globals); parameters = map (map opened) (calls_of p) }
 
 abbrev pub function_count : List Routine → ℕ
 function_count [] = 0
 function_count (r ∷ rs) = suc (function_count rs)
 
--- BEGIN, the items and END stand in no function
-abbrev pub infer : Program → Lanes
-infer p =
+-- all stores of a program; BEGIN, the items and END stand in no function
+abbrev pub walked : (n : Lanes) → Program → Lanes
+walked n p =
     let none = function_count p.routines in
-    all_marked none (all_marked none (all_marked none (routines_marked 0 (at_first p) p.routines) (steps_stores p.begin)) (steps_stores p.items))
+    all_marked n none (all_marked n none (all_marked n none (routines_marked n 0 (at_first p) p.routines) (steps_stores p.begin)) (steps_stores p.items))
     (steps_stores p.end)
+
+abbrev pub no_names : Lanes
+no_names = record { numbers = []; globals = []; parameters = [] }
+
+-- the names of numbers, where no copy counts
+abbrev pub numbers_alone : Program → Lanes
+numbers_alone p = walked no_names p
+
+-- a copy of one of these counts: it is a number, or a text from the command line
+abbrev pub infer : Program → Lanes
+infer p = let first = numbers_alone p in record (walked first p) { numbers = first.globals }

@@ -1,6 +1,7 @@
 -- What scripts store, and into which scalars they store numbers alone.
-use Rattle.std.specs.Prelude.{◌≡◌, true, false, List, [], ◌∷◌, codes, refl}
+use Rattle.std.specs.Prelude.{◌≡◌, ◌⊎◌, true, false, List, [], ◌∷◌, codes, refl}
 use Rattle.std.specs.List.{AllByRecursion as Each}
+use Rattle.std.proofs.Common.{inl, inr}
 use Rattle.std.proofs.lemmas.List.Elements.{All-from_recursion, recursion_from_All}
 use Rattle.awk_grammar.specs.Kinds.{special_arrays, special_scalars}
 use Rattle.awk_tokens.specs.declared.reserved_words.Builtin.TheVariants as builtin
@@ -9,8 +10,8 @@ use Rattle.awk_grammar.specs.Trees.{Tree, Item}
 use Rattle.awk_grammar.specs.Trees as tree
 use Rattle.sem_scripts.specs.Kinds.{resolved}
 use Rattle.mid_program.specs.Scripts as scripts
-use Rattle.value_kinds.specs.Stores.{Global, Parameter, Result, Scalar, Store, Stored, Text, Value, is_number, script_stores}
-use Rattle.value_kinds.specs.Unboxed.{TakesNumbers}
+use Rattle.value_kinds.specs.Stores.{Copy, Global, Parameter, Result, Scalar, Store, Stored, Text, Value, is_number, script_stores}
+use Rattle.value_kinds.specs.Unboxed.{CopiesNumbers, TakesCopies, TakesNumbers}
 
 abbrev stored_in : Scalar → Stored → Store
 stored_in x w = record { scalar = x; stored = w }
@@ -63,7 +64,7 @@ texts_of_all_kinds = (tree.Always (tree.And (tree.Simple
 -- what a field holds, a name's value, a record that was read and a key: none is surely a number
 pub texts_are_stored : script_stores (resolved texts_of_all_kinds) ≡
     stored_in (Global 0) (Value (tree.Field (tree.Leaf (token.Number (codes "1")))))
-    ∷ (stored_in (Global 1) (Value (tree.Var (codes "s"))) ∷ (stored_in (Global 2) Text ∷ (stored_in (Global 3) Text ∷ [])))
+    ∷ (stored_in (Global 1) (Copy (Global 0)) ∷ (stored_in (Global 2) Text ∷ (stored_in (Global 3) Text ∷ [])))
 unfolding special_arrays special_scalars
 texts_are_stored = refl
 
@@ -122,3 +123,30 @@ constant_is_a_number = All-from_recursion (Says (Global 0)) (script_stores (reso
   λ e. absurd cc,
   (λ e. refl, (λ e. absurd cc, (λ e. absurd cc, tt))),
 )
+
+-- BEGIN { n = (i); i = i + 1 }
+abbrev copied_once : List Item
+copied_once = (tree.Begin (tree.And (tree.Simple
+    (tree.Eval (tree.Bin (tree.Other (token.Assign token.Set)) (tree.Var (codes "n")) (tree.Group (tree.Var (codes "i"))))))
+    (tree.And (tree.Simple (tree.Eval (tree.Bin (tree.Other (token.Assign token.Set)) (tree.Var (codes "i"))
+    (tree.Bin (tree.Add token.Plus) (tree.Var (codes "i")) (tree.Leaf (token.Number (codes "1"))))))) tree.NoStmt))) ∷ []
+
+abbrev SaysCopies : List Item → Scalar → Store → Type 0
+SaysCopies items x s = s.scalar ≡ x → (is_number s.stored ≡ true) ⊎ CopiesNumbers (resolved items) s.stored
+
+pub sum_for_i : TakesNumbers (resolved copied_once) (Global 1)
+unfolding special_arrays special_scalars
+sum_for_i = All-from_recursion (Says (Global 1)) (script_stores (resolved copied_once)) (λ e. absurd cc, (λ e. refl, tt))
+
+pub copy_for_n : TakesCopies (resolved copied_once) (Global 0)
+unfolding special_arrays special_scalars
+copy_for_n = All-from_recursion (SaysCopies copied_once (Global 0)) (script_stores (resolved copied_once)) (λ e. inr ((codes "i", refl), sum_for_i), (λ e. absurd cc, tt))
+
+-- { s = $1; n = s; .. }: a copy of a text
+pub copy_of_text_counts_not : TakesCopies (resolved texts_of_all_kinds) (Global 1) → ⊥
+unfolding special_arrays special_scalars
+copy_of_text_counts_not h = neither ((recursion_from_All (SaysCopies texts_of_all_kinds (Global 1)) (script_stores (resolved texts_of_all_kinds)) h).1.0 refl)
+  where
+    neither : (false ≡ true) ⊎ CopiesNumbers (resolved texts_of_all_kinds) (Copy (Global 0)) → ⊥
+    neither (inl e) = not_so e
+    neither (inr c) = field_is_no_number c.1

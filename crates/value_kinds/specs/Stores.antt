@@ -18,8 +18,10 @@ pub data Scalar : Type 0 where
   Special : Scalar
 
 pub data Stored : Type 0 where
-  -- the value of an expression, by `=` or as an argument
+  -- the value of an expression that is no name, by `=` or as an argument
   Value : Tree → Stored
+  -- that of a name
+  Copy : Scalar → Stored
   -- the result of `+=` and its like, of `++` and `--`
   Result : Stored
   -- a text: what `getline` reads, what `sub` and `gsub` make, a key of `for (k in a)`
@@ -77,6 +79,7 @@ gives_number (GetIntoFrom v s) = true
 
 abbrev pub is_number : Stored → Bool
 is_number (Value t) = gives_number t
+is_number (Copy x) = false
 is_number Result = true
 is_number Text = false
 
@@ -88,17 +91,22 @@ scalar_in g (names.Global i) = Global i
 scalar_in g (names.Parameter i) = Parameter g i
 scalar_in g (names.Reserved s) = Special
 
-abbrev pub assigned : Assigning → Tree → Stored
-assigned Set t = Value t
-assigned g t = Result
-
--- what is given for the parameters of a function from the i-th on
-abbrev pub given : (function : ℕ) → (i : ℕ) → Trees → List Store
-given f i NoTree = []
-given f i (Then t ts) = record { scalar = Parameter f i; stored = Value t } ∷ given f (suc i) ts
-
 -- in the g-th function, or in none
 module _ (g : ℕ) (scope : Scope) where
+  abbrev pub value_of : Tree → Stored
+  value_of (Var x) = Copy (scalar_in g (variable_of scope x))
+  value_of (Group t) = value_of t
+  value_of t = Value t
+
+  abbrev pub assigned : Assigning → Tree → Stored
+  assigned Set t = value_of t
+  assigned a t = Result
+
+  -- what is given for the parameters of a function from the i-th on
+  abbrev pub given : (function : ℕ) → (i : ℕ) → Trees → List Store
+  given f i NoTree = []
+  given f i (Then t ts) = record { scalar = Parameter f i; stored = value_of t } ∷ given f (suc i) ts
+
   -- into what stands there, if it is a name: an element and a field are no scalars
   abbrev pub into : Tree → Stored → List Store
   into (Var x) w = record { scalar = scalar_in g (variable_of scope x); stored = w } ∷ []

@@ -19,7 +19,7 @@ abbrev pub view_kinds : Vec Kind → List plain.Kind
 view_kinds ks = map view_kind ks.items
 
 abbrev pub view_lanes : Lanes → lanes.Lanes
-view_lanes l = record { globals = map view_kind l.globals.items; parameters = map view_kinds l.parameters.items }
+view_lanes l = record { numbers = map view_kind l.numbers.items; globals = map view_kind l.globals.items; parameters = map view_kinds l.parameters.items }
 
 -- what becomes of the names in a piece of code
 abbrev pub slots : Names → plain.Slot → plain.Slot
@@ -35,4 +35,4 @@ view_kept Nothing = []
 view_kept (Last' form p before) = view_form form ∷ view_kept before
 
 abbrev pub view_walk : Walk → walks.Walk
-view_walk w = record { lanes = view_lanes w.lanes; function = w.function }
+view_walk w = record { numbers = view_lanes w.numbers; lanes = view_lanes w.lanes; function = w.function }

@@ -5,13 +5,15 @@ use Rattle.value_kinds.specs.Lanes.{Lanes, all_marked, routines_marked}
 use Rattle.mid_program.specs.Stores.{Store, stores}
 
 pub record Walk : Type 0 where
+  -- the names whose copies count
+  pub numbers : Lanes
   pub lanes : Lanes
   -- in which function the code stands
   pub function : ℕ
 
 -- these stores are marked
 abbrev pub after : Walk → List Store → Walk
-after w ss = record w { lanes = all_marked w.function w.lanes ss }
+after w ss = record w { lanes = all_marked w.numbers w.function w.lanes ss }
 
 -- of codes, one after the other, where things of these forms are kept
 abbrev pub stores_each : List Form → List Code → List Store
@@ -23,4 +25,4 @@ parameters_in rs = map (λ (r : Routine). r.parameters) rs
 
 -- over the bodies of a program's functions; what comes next stands in none of them
 abbrev pub after_routines : Walk → List Routine → Walk
-after_routines w rs = record w { lanes = routines_marked 0 w.lanes rs; function = length rs }
+after_routines w rs = record w { lanes = routines_marked w.numbers 0 w.lanes rs; function = length rs }

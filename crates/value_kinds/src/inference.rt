@@ -2,7 +2,7 @@
 
 ghost use Rattle.std.specs.Prelude.{◌≡◌, map, IfOk};
 ghost use Rattle.mid_program.specs.View.{view_declared, view_kind, view_mid, view_routine};
-ghost use Rattle.value_kinds.specs.Lanes.{at_first, infer, opened};
+ghost use Rattle.value_kinds.specs.Lanes.{at_first, infer, opened, walked};
 ghost use Rattle.mid_program.specs.Sorted.{kinds_of};
 ghost use Rattle.value_kinds.specs.View.{view_kinds, view_lanes, view_walk};
 ghost use Rattle.value_kinds.specs.Walks.{after_routines, parameters_in};
@@ -60,6 +60,7 @@ fn at_first(alloc: Global, mid: &Mid) -> Result<Lanes, AllocError>
     ensures { IfOk result (λ lanes. view_lanes lanes ≡ at_first (view_mid mid.now)) }
 {
     Ok(Lanes {
+        numbers: Vec::new(alloc),
         globals: open_globals(alloc, &mid.globals)?,
         parameters: open_routines(alloc, &mid.routines)?,
     })
@@ -77,16 +78,14 @@ fn mark_routines(walk: &mut Walk, routines: &[Routine])
     walk.function = routines.len();
 }
 
-/// Which names of a script's code are unboxed: each scalar, unless something else than a number is stored into it, or something else than a number or
-/// nothing is given for it as an argument. It takes time linear in the code.
-///
-/// # Errors
-///
-/// Where memory is wanting.
-pub fn infer(alloc: Global, mid: &Mid) -> Result<Lanes, AllocError>
-    ensures { IfOk result (λ lanes. view_lanes lanes ≡ infer (view_mid mid.now)) }
+/// The walk over all code, where copies of the names of numbers count.
+fn walked(alloc: Global, mid: &Mid, numbers: Lanes) -> Result<Walk, AllocError>
+    ensures lanes { IfOk result
+        (λ walk. view_lanes walk.lanes ≡ walked (view_lanes numbers) (view_mid mid.now)) }
+    ensures numbers { IfOk result (λ walk. view_lanes walk.numbers ≡ view_lanes numbers) }
 {
     let mut walk = Walk {
+        numbers,
         lanes: at_first(alloc, mid)?,
         function: 0,
     };
@@ -94,5 +93,31 @@ pub fn infer(alloc: Global, mid: &Mid) -> Result<Lanes, AllocError>
     mark_steps(&mut walk, &mid.begin);
     mark_steps(&mut walk, &mid.items);
     mark_steps(&mut walk, &mid.end);
-    Ok(walk.lanes)
+    Ok(walk)
+}
+
+/// Which names of a script's code are unboxed: each scalar, unless something else than a number is stored into it, or something else than a number or
+/// nothing is given for it as an argument; a global too if copies of such scalars are stored into it. Two walks find this, since a name is known to take
+/// numbers alone only once all code was seen: it takes time linear in the code.
+///
+/// # Errors
+///
+/// Where memory is wanting.
+pub fn infer(alloc: Global, mid: &Mid) -> Result<Lanes, AllocError>
+    ensures { IfOk result (λ lanes. view_lanes lanes ≡ infer (view_mid mid.now)) }
+{
+    let no_names = Lanes {
+        numbers: Vec::new(alloc),
+        globals: Vec::new(alloc),
+        parameters: Vec::new(alloc),
+    };
+    let first = walked(alloc, mid, no_names)?;
+    let second = walked(alloc, mid, first.lanes)?;
+    let numbers = second.numbers;
+    let lanes = second.lanes;
+    Ok(Lanes {
+        numbers: numbers.globals,
+        globals: lanes.globals,
+        parameters: lanes.parameters,
+    })
 }

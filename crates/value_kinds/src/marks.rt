@@ -1,8 +1,8 @@
 //! What expressions store.
 
-ghost use Rattle.std.specs.Prelude.{◌≡◌, ◌∷◌, map};
-ghost use Rattle.mid_program.specs.Mid.{End, form_of};
-ghost use Rattle.mid_program.specs.ViewCode.{before, view, views};
+ghost use Rattle.std.specs.Prelude.{◌≡◌, ◌∷◌, map, option_map};
+ghost use Rattle.mid_program.specs.Mid.{End, form_of, source_of};
+ghost use Rattle.mid_program.specs.ViewCode.{before, view, view_slot, views};
 ghost use Rattle.mid_program.specs.Stores.{stores, stores_given, stores_in};
 ghost use Rattle.value_kinds.specs.View.{view_form, view_kept, view_walk};
 ghost use Rattle.value_kinds.specs.Walks.{after, stores_each};
@@ -10,7 +10,7 @@ ghost use Rattle.value_kinds.specs.Walks.{after, stores_each};
 use crate::form::{Form, answer_by};
 use crate::kept::{Kept, form_at};
 use crate::walk::Walk;
-use mid_program::{Code, Operand};
+use mid_program::{Code, Operand, Slot};
 use sem_primitives::{Answer, Primitive, Sort};
 
 /// What a text that was read is, for the code that stores it.
@@ -18,6 +18,34 @@ const TEXT: Form = Form::PrimitiveAnswer(Answer::Of(Sort::Value));
 
 /// What a number is.
 const NUMBER: Form = Form::PrimitiveAnswer(Answer::Of(Sort::Number));
+
+/// The name whose value code gives, if it does nothing else.
+fn source_of(code: &Code) -> Option<Slot>
+    ensures { option_map view_slot result ≡ source_of (view code.now) }
+{
+    match code {
+        Code::Get(slot) => Some(*slot),
+        Code::Do(_, _)
+        | Code::Joined(_, _, _)
+        | Code::Over(_, _)
+        | Code::Compare(_, _, _)
+        | Code::Call(_, _)
+        | Code::Ask
+        | Code::AskLine(_)
+        | Code::FileLine(_, _)
+        | Code::Replace(_, _, _)
+        | Code::Number(_)
+        | Code::Text(_)
+        | Code::Unset
+        | Code::Set(_, _)
+        | Code::Array(_)
+        | Code::IsOpen(_)
+        | Code::Choose(_, _, _, _)
+        | Code::Seq(_, _)
+        | Code::Let(_, _)
+        | Code::Bound(_, _) => None,
+    }
+}
 
 /// Marks what code stores while this is kept, and answers the code's form.
 #[cycle(marks)]
@@ -60,7 +88,7 @@ pub(crate) fn mark_code<'a>(walk: &mut Walk, kept: &'a Kept<'a>, code: &Code) ->
         }
         Code::Set(slot, value) => {
             let form = mark_code(walk, kept, value);
-            walk.store(*slot, form);
+            walk.store(*slot, source_of(value), form);
             form
         }
         Code::Choose(sort, test, yes, no) => {

@@ -13,6 +13,8 @@ use mid_program::{Kind, Slot};
 /// Which of a script's names are unboxed: the others are boxed, or arrays.
 #[derive(Drop)]
 pub struct Lanes {
+    /// The globals into which numbers alone are stored: into the other unboxed ones copies of names are stored, too, which may be texts.
+    pub numbers: Vec<Kind>,
     /// By the numbers of the globals. An unboxed one is a number with a boxed twin, since the command line may give it a text.
     pub globals: Vec<Kind>,
     /// For each function, by the places of its parameters. An unboxed one is a number, or nothing yet.

@@ -4,7 +4,7 @@ ghost use Rattle.std.specs.Prelude.{◌≡◌, map, IfOk, IsOk};
 ghost use Rattle.mid_program.specs.Mid.{parameters_at};
 ghost use Rattle.mid_program.specs.View.{view_declared, view_kind, view_mid, view_routine};
 ghost use Rattle.mid_program.specs.SameRuns.{SameRuns};
-ghost use Rattle.value_kinds.specs.Applied.{apply, globals_with, is_unboxed, kind_with, kinds_with, routine_with, routines_with};
+ghost use Rattle.value_kinds.specs.Applied.{apply, global_with, globals_with, is_unboxed, kind_with, kinds_with, routine_with, routines_with};
 ghost use Rattle.value_kinds.specs.View.{view_lanes};
 
 use crate::names::{Lanes, Names, is_unboxed, kind_with};
@@ -29,20 +29,21 @@ fn lane_kinds(lanes: &[Kind], kinds: &mut Vec<Kind>)
     }
 }
 
-fn lane_global(unboxed: bool, global: &mut Declared)
-    ensures { view_declared global.new ≡ record (view_declared global.old)
-        { kind = kind_with unboxed (view_kind global.old.kind) } }
+fn lane_global(unboxed: bool, numbers: bool, global: &mut Declared)
+    ensures { view_declared global.new ≡ global_with unboxed numbers (view_declared global.old) }
 {
     global.kind = kind_with(unboxed, global.kind);
+    global.mixed = unboxed && !numbers;
 }
 
-fn lane_globals(lanes: &[Kind], globals: &mut Vec<Declared>)
-    ensures { map view_declared globals.new.items ≡ globals_with
-        (is_unboxed (map view_kind lanes.now)) (map view_declared globals.old.items) }
+fn lane_globals(lanes: &[Kind], numbers: &[Kind], globals: &mut Vec<Declared>)
+    ensures { map view_declared globals.new.items
+        ≡ globals_with (is_unboxed (map view_kind lanes.now)) (is_unboxed (map view_kind numbers.now))
+        (map view_declared globals.old.items) }
 {
     let mut place = 0;
     for global in globals.iter_mut() {
-        lane_global(is_unboxed(lanes, place), global);
+        lane_global(is_unboxed(lanes, place), is_unboxed(numbers, place), global);
         place += 1;
     }
 }
@@ -62,7 +63,7 @@ fn lane_routine(globals: &[Kind], parameters: &[Kind], routine: &mut Routine)
 }
 
 /// The lanes of a function's parameters.
-fn parameters_at(lanes: &Lanes, place: usize) -> &[Kind]
+pub(crate) fn parameters_at(lanes: &Lanes, place: usize) -> &[Kind]
     ensures { map view_kind result.now ≡ parameters_at (view_lanes lanes.now).parameters place }
 {
     if place >= lanes.parameters.len() {
@@ -94,7 +95,7 @@ pub fn apply(mid: Mid, lanes: &Lanes) -> Result<Mid, (Mid, AllocError)>
     ensures same_meaning { IfOk result (λ new. SameRuns (view_mid new) (view_mid mid)) }
 {
     let mut mid = mid;
-    lane_globals(&lanes.globals, &mut mid.globals);
+    lane_globals(&lanes.globals, &lanes.numbers, &mut mid.globals);
     lane_routines(lanes, &mut mid.routines);
     let names = Names {
         globals: &lanes.globals,

@@ -1,20 +1,23 @@
 //! The walk over code, which marks what is stored.
 
-ghost use Rattle.std.specs.Prelude.{◌≡◌, ◌∷◌, [], map};
+ghost use Rattle.std.specs.Prelude.{◌≡◌, ◌∷◌, [], map, option_map};
 ghost use Rattle.mid_program.specs.View.{view_kind};
 ghost use Rattle.mid_program.specs.ViewCode.{view_slot};
-ghost use Rattle.value_kinds.specs.Lanes.{close_at, close_in, closed};
+ghost use Rattle.value_kinds.specs.Lanes.{close_at, close_in, closed, is_copy};
 ghost use Rattle.mid_program.specs.Stores.{Given, Into};
-ghost use Rattle.value_kinds.specs.View.{view_form, view_kinds, view_walk};
+ghost use Rattle.value_kinds.specs.View.{view_form, view_kinds, view_lanes, view_walk};
 ghost use Rattle.value_kinds.specs.Walks.{after};
 
 use crate::form::Form;
-use crate::names::Lanes;
+use crate::names::{Lanes, is_unboxed};
+use crate::program::parameters_at;
 use mid_program::{Kind, Slot};
 
 /// The walk over the code of a function.
 #[derive(Drop)]
 pub(crate) struct Walk {
+    /// The names whose copies count as numbers, for a global.
+    pub(crate) numbers: Lanes,
     /// The lanes as they are after what was visited.
     pub(crate) lanes: Lanes,
     /// The function's number; the main parts have one that no function has.
@@ -50,16 +53,34 @@ fn close_in(functions: &mut Vec<Vec<Kind>>, function: usize, place: usize)
 }
 
 impl Walk {
-    /// Marks what is stored into a name.
-    pub(crate) fn store(&mut self, slot: Slot, form: Form)
-        ensures { view_walk self.new
-            ≡ after (view_walk self.old) (Into (view_slot slot) (view_form form) ∷ []) }
+    /// Whether this is a copy of a name whose copies count.
+    fn is_copy(&self, source: Option<Slot>) -> bool
+        ensures { result ≡ is_copy (view_lanes self.now.numbers) self.now.function
+            (option_map view_slot source) }
+    {
+        match source {
+            Some(Slot::Global(_, place)) => is_unboxed(&self.numbers.globals, place),
+            Some(Slot::Parameter(_, place)) => {
+                is_unboxed(parameters_at(&self.numbers, self.function), place)
+            }
+            None => false,
+        }
+    }
+
+    /// Marks what is stored into a name: the value of a name, if there is a source.
+    pub(crate) fn store(&mut self, slot: Slot, source: Option<Slot>, form: Form)
+        ensures { view_walk self.new ≡ after (view_walk self.old)
+            (Into (view_slot slot) (option_map view_slot source) (view_form form) ∷ []) }
     {
         if form.is_number() {
             return;
         }
         match slot {
-            Slot::Global(_, place) => close_at(&mut self.lanes.globals, place),
+            Slot::Global(_, place) => {
+                if !self.is_copy(source) {
+                    close_at(&mut self.lanes.globals, place);
+                }
+            }
             Slot::Parameter(_, place) => close_in(&mut self.lanes.parameters, self.function, place),
         }
     }

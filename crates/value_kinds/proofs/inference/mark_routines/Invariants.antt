@@ -5,5 +5,7 @@ use Rattle.value_kinds.specs.View.{view_lanes}
 use Rattle.value_kinds.proofs.inference.mark_routines.Given as goal
 
 abbrev pub invariant-loop-place : goal.invariant-loop-place
-invariant-loop-place l =
-    routines_marked l.place (view_lanes l.walk.lanes) (map view_routine (drop l.place l.routines)) ≡ routines_marked 0 (view_lanes l.fn.walk.lanes) (map view_routine l.routines)
+invariant-loop-place l = record {
+  numbers : view_lanes l.walk.numbers ≡ view_lanes l.fn.walk.numbers;
+  lanes : routines_marked (view_lanes l.walk.numbers) l.place (view_lanes l.walk.lanes) (map view_routine (drop l.place l.routines)) ≡ routines_marked (view_lanes l.fn.walk.numbers) 0 (view_lanes l.fn.walk.lanes) (map view_routine l.routines);
+}

@@ -1,7 +1,8 @@
 use Rattle.std.proofs.Common.{List, [], ◌∷◌, ◌++◌, map, ap, sym, ◌∙◌, arith}
 use Rattle.std.proofs.lemmas.List.{drop_all}
+use Rattle.std.specs.Prelude.{option_map}
 use Rattle.mid_program.specs.Mid as plain
-use Rattle.mid_program.specs.Mid.{a_value, form_of}
+use Rattle.mid_program.specs.Mid.{a_value, form_of, source_of}
 use Rattle.mid_program.specs.ViewCode.{view, view_slot, views}
 use Rattle.mid_program.specs.declared.code.Code.{Code}
 use Rattle.mid_program.specs.declared.code.Operand.{Operand}
@@ -107,6 +108,7 @@ mark_code-returns-in-Set-clause-walk t c =
     let w = view_walk c.args.walk.now in
     let s = view_walk c.mark_code-form.new.walk in
     set_walked fs w s (view_walk c.store.new.self) (view_form c.mark_code-form.result) (view_slot c.in-Set.slot) (view c.in-Set.value.value)
+    (option_map view_slot c.source_of.result) (c.source_of.ensures ∙ ap (λ (x : Code). source_of (view x)) c.deref-in-Set-2.ensures)
     (c.mark_code-form.ensures.form ∙ ap (λ (x : Code). form_of fs (view x)) c.deref-in-Set.ensures)
     (c.mark_code-form.ensures.walk ∙ ap (λ (x : Code). after w (stores fs (view x))) c.deref-in-Set.ensures) c.store.ensures
     ∙ ap (λ (x : Code). after w (stores fs (view x))) (sym c.in-Set.is)

@@ -7,5 +7,5 @@ use Rattle.value_kinds.proofs.program.lane_globals.Given as goal
 abbrev pub invariant-loop-global : goal.invariant-loop-global
 invariant-loop-global l = record {
   place : l.place ≡ l.global-index;
-  done : Done (GlobalDone (is_unboxed (map view_kind l.lanes))) l.global-index l.global-items l.fn.globals.items;
+  done : Done (GlobalDone (is_unboxed (map view_kind l.lanes)) (is_unboxed (map view_kind l.numbers))) l.global-index l.global-items l.fn.globals.items;
 }
