@@ -34,7 +34,9 @@ walked = refl
 abbrev script : Program
 script = record {
   texts = [];
-  globals = record { name = codes "A"; kind = Unboxed } ∷ (record { name = codes "B"; kind = Unboxed } ∷ (record { name = codes "C"; kind = Unboxed } ∷ []));
+  globals = record { name = codes "A"; kind = Unboxed; mixed = false }
+      ∷ (record { name = codes "B"; kind = Unboxed; mixed = false }
+      ∷ (record { name = codes "C"; kind = Unboxed; mixed = false } ∷ []));
   routines = record { name = codes "f"; parameters = []; body = NoStep } ∷ [];
   ranges = 0;
   begin = NoStep;
@@ -48,10 +50,10 @@ abbrev job : JobForm
 job = record { operands = codes "A=1" ∷ (codes "file" ∷ []); assigns = (codes "B", codes "2") ∷ []; environment = [] }
 
 pub by_operand : AssignsName script job 0
-by_operand = (record { name = codes "A"; kind = Unboxed }, refl, inr (codes "A=1", codes "1", (zero, omega arith, refl), refl))
+by_operand = (record { name = codes "A"; kind = Unboxed; mixed = false }, refl, inr (codes "A=1", codes "1", (zero, omega arith, refl), refl))
 
 pub by_option : AssignsName script job 1
-by_option = (record { name = codes "B"; kind = Unboxed }, refl, inl (zero, codes "2", refl))
+by_option = (record { name = codes "B"; kind = Unboxed; mixed = false }, refl, inl (zero, codes "2", refl))
 
 pub no_assignment : assignment_of (codes "file") ≡ None
 no_assignment = refl
