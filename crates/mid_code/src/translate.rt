@@ -52,7 +52,11 @@ fn announced(alloc: Global, name: &NameKind<'_>) -> Result<Declared, AllocError>
 {
     let kind = kind_of(name);
     let name = name.name.to_vec(alloc)?;
-    Ok(Declared { name, kind })
+    Ok(Declared {
+        name,
+        kind,
+        mixed: false,
+    })
 }
 
 /// What is announced of the global names.

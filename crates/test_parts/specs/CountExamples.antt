@@ -40,7 +40,7 @@ kind_for false = Boxed
 abbrev with_begin : Bool → Steps → Program
 with_begin u ss = record {
   texts = [];
-  globals = (record { name = codes "n"; kind = kind_for u })
+  globals = (record { name = codes "n"; kind = kind_for u; mixed = false })
       ∷ [];
   routines = [];
   ranges = 1;
@@ -119,7 +119,7 @@ abbrev nth : ℕ → Code
 nth i = Get (Global true i)
 
 abbrev unboxed_name : List ℕ → Declared
-unboxed_name x = record { name = x; kind = Unboxed }
+unboxed_name x = record { name = x; kind = Unboxed; mixed = false }
 
 abbrev first_and_next : Steps
 first_and_next =
@@ -161,7 +161,7 @@ counter =
 abbrev tallying : ℕ → Program
 tallying k = record {
   texts = codes "x" ∷ [];
-  globals = unboxed_name (codes "n") ∷ ((record { name = codes "c"; kind = ArrayKind }) ∷ []);
+  globals = unboxed_name (codes "n") ∷ ((record { name = codes "c"; kind = ArrayKind; mixed = false }) ∷ []);
   routines = [];
   ranges = 1;
   begin = Then (Loop true (Compare Less (n_of true) (Number (pos k))) (Block (Then (n_plus_one true) (Then (Eval counter) NoStep))) (Block NoStep)) NoStep;

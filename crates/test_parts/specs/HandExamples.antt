@@ -22,7 +22,7 @@ use Rattle.lower_model.specs.Boundaries.{steps_places, nops_in}
 use Rattle.test_parts.specs.CountExamples.{plain_setting}
 
 abbrev name : Kind → List ℕ → Declared
-name kind text = record { name = text; kind = kind }
+name kind text = record { name = text; kind = kind; mixed = false }
 
 -- names: k, and an array a; texts: x and y
 abbrev program : List Routine → Steps → Program

@@ -13,7 +13,7 @@ use Rattle.test_parts.specs.Sizes.{module_size, times}
 abbrev repeated : Kind → ℕ → Step → Program
 repeated kind n s = record {
   texts = [];
-  globals = (record { name = codes "x"; kind = kind })
+  globals = (record { name = codes "x"; kind = kind; mixed = false })
       ∷ [];
   routines = [];
   ranges = 1;

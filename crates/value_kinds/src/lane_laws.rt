@@ -12,14 +12,14 @@ pub fn lanes_keep_the_meaning()
     ensures { (l : Lanes) (p : Program) → SameRuns (apply l p) p }
 {}
 
-/// The lanes that are found unbox each scalar into which numbers alone are stored, and for which numbers alone, or nothing, are given as arguments. Results of
-/// operators, of steps and of comparisons are numbers, and so are number constants.
+/// The lanes that are found unbox each scalar into which numbers alone are stored, and for which numbers alone, or nothing, are given as arguments, and each
+/// global into which copies of such scalars are stored besides. Results of operators, of steps and of comparisons are numbers, and so are number constants.
 pub fn numbers_are_unboxed()
     ensures { (p : Program) → FindsNumbers p }
 {}
 
-/// A program that is well sorted stays so with the lanes that are found: into an unboxed name numbers alone are stored, and for an unboxed parameter numbers
-/// alone, or nothing, are given.
+/// A program that is well sorted stays so with the lanes that are found: into an unboxed name numbers alone are stored, or, into a mixed global, copies of
+/// unboxed names; and for an unboxed parameter numbers alone, or nothing, are given.
 pub fn found_lanes_leave_sorted()
     ensures { (p : Program) → IsSorted p → IsSorted (apply (infer p) p) }
 {}

@@ -1,6 +1,6 @@
 //! Which names of a script hold numbers alone, and the code in which they are unboxed.
 //!
-//! Scalars into which a script stores numbers alone are unboxed.
+//! Scalars into which a script stores numbers alone are unboxed, and so are globals into which it stores copies of these besides.
 #![tactic(auto)]
 
 mod code;

@@ -9,7 +9,7 @@ ghost use Rattle.value_kinds.specs.Unboxed.{UnboxesNumbers};
 use crate::lane_laws::numbers_are_unboxed;
 
 /// Each scalar into which a script stores numbers alone, as arguments too, is unboxed in its code, once constants are computed and the names of numbers are
-/// found.
+/// found; and so is each global into which it stores copies of such scalars besides.
 pub fn names_of_numbers_are_unboxed()
     ensures { (script : Resolved) → UnboxesNumbers script
         (apply (infer (fold (program_of script))) (fold (program_of script))) }

@@ -46,7 +46,7 @@ counting u = Then (Eval (Set (Global u 0) (n_plus_one u))) (printing u)
 abbrev script : Bool → Program
 script u = record {
   texts = [];
-  globals = (record { name = codes "n"; kind = kind_for u }) ∷ [];
+  globals = (record { name = codes "n"; kind = kind_for u; mixed = false }) ∷ [];
   routines = [];
   ranges = 0;
   begin = counting u;

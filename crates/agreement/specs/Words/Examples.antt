@@ -34,7 +34,9 @@ walked = refl
 abbrev script : Program
 script = record {
   texts = [];
-  globals = record { name = codes "A"; kind = Unboxed; mixed = false } ∷ (record { name = codes "B"; kind = Unboxed; mixed = false } ∷ (record { name = codes "C"; kind = Unboxed; mixed = false } ∷ []));
+  globals = record { name = codes "A"; kind = Unboxed; mixed = false }
+      ∷ (record { name = codes "B"; kind = Unboxed; mixed = false }
+      ∷ (record { name = codes "C"; kind = Unboxed; mixed = false } ∷ []));
   routines = record { name = codes "f"; parameters = []; body = NoStep } ∷ [];
   ranges = 0;
   begin = NoStep;
