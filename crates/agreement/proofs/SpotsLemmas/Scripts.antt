@@ -163,7 +163,7 @@ module _ (notes : Notes) (script : Resolved) where
   -- Whole scripts.
 
   globals_so : map global_name (final_program script).globals ≡ script.globals
-  globals_so = sym (applied.names_kept (is_unboxed (lanes_of script).globals) (fold (program_of script)).globals) ∙ globals_again script.globals
+  globals_so = sym (applied.names_kept (is_unboxed (lanes_of script).globals) (is_unboxed (lanes_of script).numbers) (fold (program_of script)).globals) ∙ globals_again script.globals
 
   functions_so : map routine_name (final_program script).routines ≡ map as_name script.functions
   functions_so =

@@ -378,15 +378,15 @@ module _ (tells : Bool) (y : Layout) (sizes : ℕ → Option ℕ) where
     stored_spares o f t put p p0 = record { so = λ A. (refl, p A) }
 
   module _ {e : Bool} {k : Instructions} (r : Always e k) where
-    text_spares : (o : Bool) (i : ℕ) (f : Form) (t : ℕ) → Always e (text_stored y o i f t k)
-    text_spares o i (PrimitiveAnswer a) t = r
-    text_spares o i NumberOrText t = record { so = λ A. (handle_spares none o t (GlobalSet (handle_global y.ranges i)) [] (refl, tt), (tt, r.so [])) }
-    text_spares o i OptionalNumber t = r
+    stored_text : (o : Bool) (i : ℕ) (f : Form) (t : ℕ) → Always e (text_stored y o i f t k)
+    stored_text o i (PrimitiveAnswer a) t = r
+    stored_text o i NumberOrText t = record { so = λ A. (handle_spares none o t (GlobalSet (handle_global y.ranges i)) [] (refl, tt), (tt, r.so [])) }
+    stored_text o i OptionalNumber t = r
 
   module _ {e : Bool} {k : Instructions} (r : Always e k) where
     set_spares : (o : Bool) (x : Slot) (f : Form) (t : ℕ) → Always e (slot_set y o x f t k)
     set_spares o (Global false i) f t = record { so = λ A. (true, (λ q. named i), (refl, (stored_spares r o f t (GlobalSet (handle_global y.ranges i)) (λ B. (refl, r.so B)) (refl, tt)).so A)) }
-    set_spares o (Global true i) f t = dropped_text (text_spares (record { so = λ A. (refl, r.so A) }) o i f t) i
+    set_spares o (Global true i) f t = dropped_text (stored_text (record { so = λ A. (refl, r.so A) }) o i f t) i
     set_spares o (Parameter false i) f t = record { so = λ A. (refl, (stored_spares r o f t (LocalSet i) (λ B. r.so B) tt).so A) }
     set_spares o (Parameter true i) f t = record { so = λ A. r.so A }
 
