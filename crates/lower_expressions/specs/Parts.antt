@@ -16,30 +16,20 @@ use Rattle.wasm_types.specs.declared.types.ValType.TheVariants.{I64}
 use Rattle.wasm_types.specs.declared.instr.ITestOp.TheVariants.{Eqz}
 use Rattle.mid_program.specs.MidMeaning.{three_values}
 use Rattle.wasm_types.specs.Syntax.{Instructions, Done}
-use Rattle.wasm_types.specs.declared.instr.Simple.TheVariants.{Br, Call as CallOf, GlobalGet, GlobalSet, I32Const, I64Const, LocalGet, LocalTee, Test}
+use Rattle.wasm_types.specs.declared.instr.Simple.TheVariants.{Br, Call as CallOf, I32Const, I64Const, LocalGet, LocalTee, Test}
 use Rattle.mid_program.specs.Mid as plain
 use Rattle.mid_program.specs.declared.mid.Operation.{Operation}
 use Rattle.mid_program.specs.declared.mid.Operation.TheVariants.{Host}
-use Rattle.mid_program.specs.Mid.{Kind, Boxed, Unboxed, ArrayKind, Code, Codes, End, At, Fixed, Fresh, arguments, form_of, parameters_at}
+use Rattle.mid_program.specs.Mid.{Kind, Boxed, ArrayKind, Code, Codes, End, At, Fixed, Fresh, arguments, form_of, parameters_at}
 use Rattle.lower_model.specs.Places.{Bases, array_local, made_in, handle_local, number_local}
-use Rattle.lower_model.specs.Small.{ask, ask_row, emit, emit_if, kept, kept_code, answer_kept, minus_one, moved_out, number_is, to_value, converted, when}
-use Rattle.lower_model.specs.Emission.{Layout, added, all_converted, all_emitted, all_pushed, emitted, name_read, text_kept, text_let_go, assigned, function_number, global_handle, global_number, listed_asked, one_given, pending_assigned, performed, text_dropped}
+use Rattle.lower_model.specs.Small.{ask, ask_row, emit, emit_if, kept, kept_code, answer_kept, moved_out, number_is, to_value, converted, when}
+use Rattle.lower_model.specs.Emission.{Layout, added, all_converted, all_emitted, all_pushed, emitted, name_read, text_kept, text_let_go, assigned, function_number, listed_asked, one_given, pending_assigned, performed}
 use Rattle.lower_model.specs.Quick.{Addition, addition_names, all_unsure}
-use Rattle.host_imports.specs.declared.import.Import.TheVariants.{Arg, Drop, FreeArray}
+use Rattle.host_imports.specs.declared.import.Import.TheVariants.{Arg, FreeArray}
 
 -- a constant, and the value that a row has of it
 abbrev pub constant_asked : (bits : ℕ) → Primitive → Instructions → Instructions
 constant_asked bits primitive after = emit (I64Const bits) (ask_row primitive after)
-
--- the text beside an unboxed name is dropped
-abbrev pub handle_dropped : Layout → ℕ → Instructions → Instructions
-handle_dropped layout name after =
-    emit (GlobalGet (global_handle layout name)) (ask Drop (emit (I32Const minus_one) (emit (GlobalSet (global_handle layout name)) after)))
-
--- an unboxed name takes a number
-abbrev pub bare_set : Layout → ℕ → ℕ → Instructions → Instructions
-bare_set layout name temporary after =
-    text_dropped layout name (emit (LocalGet (number_local layout.bases temporary)) (emit (GlobalSet (global_number layout name)) after))
 
 -- what becomes of one name where the command line assigns
 abbrev pub number_assigned : Layout → Kind → ℕ → ℕ → Instructions → Instructions

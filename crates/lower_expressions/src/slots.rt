@@ -2,13 +2,12 @@
 ghost use Rattle.std.specs.Prelude.{◌≡◌, ◌≤◌, true, false};
 ghost use Rattle.mid_program.specs.Mid.{NumberOrText, Global as GlobalSlot, slot_form};
 ghost use Rattle.mid_program.specs.ViewCode.{view_slot};
-ghost use Rattle.lower_model.specs.Emission.{handle_stored, slot_read, slot_set, text_dropped, value_stored};
+ghost use Rattle.lower_model.specs.Emission.{handle_stored, slot_read, slot_set, text_dropped, text_stored, value_stored};
 ghost use Rattle.lower_model.specs.Small.{boxed_perhaps};
 ghost use Rattle.lower_pieces.specs.Bounds.{most_places};
 ghost use Rattle.lower_pieces.specs.Emits.{Emits, Reads};
 ghost use Rattle.lower_pieces.specs.Forms.{view_form};
 ghost use Rattle.lower_expressions.specs.Fits.{SlotFits};
-ghost use Rattle.lower_expressions.specs.Parts.{bare_set};
 ghost use Rattle.lower_expressions.specs.View.{view_layout};
 
 use crate::function_layout::FunctionLayout;
@@ -16,7 +15,7 @@ use crate::places::{global_handle, global_number};
 use host_imports::Import;
 use lower_pieces::{
     Emitted, Form, MINUS_ONE, TEXT_BESIDE, boxed_number, boxed_perhaps, copied_by, emit, emit_all,
-    emit_if, import_call, moved_out, number_is, row_call, when_all,
+    emit_if, import_call, moved_out, number_is, row_call, when, when_all,
 };
 use mid_program::Slot;
 use sem_primitives::{Answer, Primitive, Sort};
@@ -176,13 +175,48 @@ pub fn text_dropped(layout: &FunctionLayout<'_>, out: &mut Emitted, name: usize)
     when_all(layout.alloc, out, &drop);
 }
 
-/// Writes an unboxed global.
-fn bare_set(layout: &FunctionLayout<'_>, out: &mut Emitted, name: usize, temporary: u32)
+/// Stores the text beside the number of a temporary, if there is one, beside an unboxed name.
+fn text_stored(
+    layout: &FunctionLayout<'_>,
+    out: &mut Emitted,
+    only: bool,
+    name: usize,
+    form: Form,
+    temporary: u32,
+)
     requires name { name ≤ most_places }
     requires places { temporary ≤ most_places }
-    ensures { Emits out.old out.new (bare_set (view_layout layout.now) name temporary) }
+    ensures { Emits out.old out.new
+        (text_stored (view_layout layout.now) only name (view_form form) temporary) }
+{
+    match form {
+        Form::NumberOrText => {
+            number_is(out, layout.bases.number(temporary), TEXT_BESIDE);
+            let put = Simple::GlobalSet(global_handle(layout, name));
+            let mut text = Emitted::new(layout.alloc);
+            handle_stored(layout, &mut text, only, temporary, put);
+            when(layout.alloc, out, text);
+        }
+        Form::PrimitiveAnswer(_) | Form::OptionalNumber => {}
+    }
+}
+
+/// Writes an unboxed global.
+fn bare_set(
+    layout: &FunctionLayout<'_>,
+    out: &mut Emitted,
+    only: bool,
+    name: usize,
+    form: Form,
+    temporary: u32,
+)
+    requires name { name ≤ most_places }
+    requires places { temporary ≤ most_places }
+    ensures { Emits out.old out.new
+        (slot_set (view_layout layout.now) only (GlobalSlot true name) (view_form form) temporary) }
 {
     text_dropped(layout, out, name);
+    text_stored(layout, out, only, name, form, temporary);
     let all = [
         Simple::LocalGet(layout.bases.number(temporary)),
         Simple::GlobalSet(global_number(layout, name)),
@@ -217,7 +251,7 @@ pub(crate) fn slot_set(
                 Simple::GlobalSet(global),
             );
         }
-        Slot::Global(true, name) => bare_set(layout, out, name, temporary),
+        Slot::Global(true, name) => bare_set(layout, out, only, name, form, temporary),
         Slot::Parameter(false, place) => {
             let local = place as u32;
             emit_all(out, &[Simple::LocalGet(local), import_call(Import::Drop)]);
