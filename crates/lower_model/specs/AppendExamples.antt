@@ -3,7 +3,7 @@ use Rattle.std.specs.Prelude.{◌≡◌, refl, true, false, Some, None, pos}
 use Rattle.sem_primitives.specs.declared.table.Primitive.TheVariants as row
 use Rattle.sem_primitives.specs.declared.sorts.Sort.TheVariants as sort
 use Rattle.mid_program.specs.declared.mid.Operation.TheVariants.{Host}
-use Rattle.mid_program.specs.Mid.{Slot, Global, Parameter, Code, Do, Call, Ask, Number, Text, Get, Set, Array, Choose, End, At}
+use Rattle.mid_program.specs.Mid.{Slot, Global, Parameter, Code, Do, Call, Ask, Replace, Number, Text, Get, Set, Array, Choose, Bound, End, At}
 use Rattle.sem_scripts.specs.Names.{Numbered}
 use Rattle.lower_model.specs.Appends.{append_in}
 
@@ -52,3 +52,13 @@ itself = refl
 
 pub of_a_parameter : append_in (Set (Parameter false 3) (joined (Get (Parameter false 3)) (Text 0))) ≡ None
 of_a_parameter = refl
+
+-- `s = s a[s]`, `s = s sub("x", "y", t)`, and an unboxed name
+pub inside : append_in (Set s (joined (Get s) (Do (Host row.Elem) (At (Array (Numbered 2)) (At (Get s) End))))) ≡ None
+inside = refl
+
+pub with_substitution : append_in (Set s (joined (Get s) (Replace false (At (Text 0) (At (Text 1) (At (Get (Global false 4)) End))) (Set (Global false 4) (Bound true 0))))) ≡ None
+with_substitution = refl
+
+pub of_a_number : append_in (Set (Global true 3) (joined (Get (Global true 3)) (Text 0))) ≡ None
+of_a_number = refl
