@@ -45,7 +45,7 @@ pub fn assignments_are_the_jobs()
         → (i : ℕ) → IsAssigned reached i → AssignsName p job i }
 {}
 
-/// So a statement on numbers of such a program is quiet where its names are unboxed and no word of the job assigns to one of them.
+/// So a statement on numbers of such a program is quiet where its names are unboxed and take no copies, and no word of the job assigns to one of them.
 pub fn quiet_by_the_job()
     ensures { (p : Program) → IsSorted p → ModuleOk (module_of p) → program_names p ≡ false
         → (job : JobForm) (input : Source) (outside : Environment)

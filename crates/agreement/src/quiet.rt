@@ -34,8 +34,8 @@ pub fn numbers_are_quiet()
         → HostCallFree m.program c (λ there. AtNext p c a there ⊎ AtFault p c there) }
 {}
 
-/// So is a statement whose names are unboxed in the function at work, where the command line has assigned to none of them in this run. An unboxed
-/// parameter never has a text beside it.
+/// So is a statement whose names are unboxed in the function at work and take no copies, where the command line has assigned to none of them in this run. An
+/// unboxed parameter never has a text beside it.
 pub fn lanes_are_quiet()
     ensures { (p : Program) → IsSorted p → ModuleOk (module_of p)
         → (job : JobForm) (input : Source) (outside : Environment)

@@ -15,7 +15,7 @@ use Rattle.value_kinds.specs.Applied.{apply}
 use Rattle.value_kinds.specs.Lanes.{infer}
 use Rattle.script_code.specs.Expressions.{AreFine}
 
--- constant parts are computed, and then each name that holds numbers alone is unboxed
+-- constant parts are computed, and then names that hold numbers, or copies of such names, are unboxed
 abbrev pub unboxed : Program → Program
 unboxed p = apply (infer (fold p)) (fold p)
 

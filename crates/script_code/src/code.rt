@@ -68,7 +68,7 @@ fn code_of_tokens(alloc: Global, tokens: &[Token<'_>]) -> Result<Mid, CompileFau
 }
 
 /// The code of a script (POSIX.1-2017 awk, in the profile of this project), from its bytes: mid code that ends as the script does, in which constant parts
-/// are computed and names that hold numbers alone are unboxed.
+/// are computed and names that hold numbers, or copies of such names, are unboxed.
 ///
 /// # Errors
 ///

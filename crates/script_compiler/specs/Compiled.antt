@@ -59,7 +59,8 @@ pub record KeepsNothing (code : Program) (m : ModuleForm) : Type 0 where
       → Reached m job input outside a c s → (n : ℕ) → turn a.program c ≡ Ends (ends.Returned (Some (I32 n))) → AtReturn code c s
 
 -- If a run is at a statement `name = Expr` of the script, after which another one comes in its list, with number constants, names, groups, `+`, `-` and
--- `*` in Expr, and each name is unboxed and does not count as assigned, it calls no import up to the place of the next statement, or to the fault.
+-- `*` in Expr, and each name is unboxed, takes no copies and does not count as assigned, it calls no import up to the place of the next statement, or to the
+-- fault.
 abbrev pub IsQuietAt : Resolved → MachineForm → Conf → HostState → (Assigned : ℕ → Type 0) → Type 0
 IsQuietAt script a c s Assigned = (here : AtStatement (final_program script) c s) → (on : AtAssignment script c s here Assigned)
     → HostCallFree a.program c (λ there. AtFollowing script on.home on.around on.next on.further c there ⊎ AtFault (final_program script) c there)
@@ -89,7 +90,7 @@ pub record HasPlaces (code : Program) : Type 0 where
 -- THE MAIN THEOREM, of a script and the bytes that it is compiled to: they are a module, which the rules type, which links with the host, which has
 -- runs, which agrees with the script in every job and world, and which keeps nothing, and whose runs pass the places of statements as the script
 -- executes them. It is the module of the script's code, so that a script has one module; this code is well sorted, and a scalar into which the script stores
--- numbers alone is unboxed in it.
+-- numbers alone is unboxed in it, as is a global into which it stores copies of such scalars besides.
 pub record IsCompiled (bytes : List ℕ) (compiled : List ℕ) : Type 0 where
   pub short : length bytes ≤ most_script_bytes
   pub tokens : List Spelled

@@ -56,9 +56,9 @@ fn bytes_of(alloc: Global, mid: &Mid) -> Result<Vec<u8>, CompileFault>
 
 /// The bytes of a module that does what a script does (POSIX.1-2017 awk, in the profile of this project), in every job, and in every world that tells
 /// what it holds, over a host of the table of imports. It keeps nothing from one statement to the next but what names, calls and loops over keys hold, and a
-/// statement on unboxed numbers calls no import, unless a word of the job assigns to one of its names, or the script names ARGV. A run passes the place of a
-/// statement as often as the script executes the statement, and in the same order, and each step of the script's code has a place of its own. A scalar into
-/// which the script stores numbers alone is unboxed.
+/// statement on unboxed names that take no copies calls no import, unless a word of the job assigns to one of them, or the script names ARGV. A run passes the
+/// place of a statement as often as the script executes the statement, and in the same order, and each step of the script's code has a place of its own. A
+/// scalar into which the script stores numbers alone is unboxed, and so is a global into which it stores copies of such scalars besides.
 ///
 /// # Errors
 ///
