@@ -4,7 +4,7 @@ ghost use Rattle.std.specs.FinMap as map;
 ghost use Rattle.slab.specs.Slab.{HasRoomFor};
 ghost use Rattle.host_handles.specs.Tables.{most_slots};
 
-use crate::MAX_SLOTS;
+use crate::{MAX_SLOTS, numbered};
 use awk_values::{Bytes, Value};
 use slab::Slab;
 use std::alloc::{AllocError, Global};
@@ -45,15 +45,6 @@ fn slot_of(handle: i32) -> Option<usize>
         return None;
     }
     Some(handle as usize)
-}
-
-/// The slot of a handle that has a value.
-#[inline(always)]
-fn slot_in_use(handle: i32) -> usize
-    requires { pos 0 ≤ℤ handle }
-    ensures { handle ≡ pos result }
-{
-    handle as usize
 }
 
 /// Makes room for one more value. Mostly there is some.
@@ -131,7 +122,7 @@ impl Handles {
         ensures value { map.get self.old handle ≡ Some result }
         ensures replaced { self.new ≡ map.insert self.old handle value }
     {
-        replace(&mut self.slab[slot_in_use(handle)], value)
+        replace(&mut self.slab[numbered::slot_of(handle)], value)
     }
 
     /// Keeps the room of a text. It stands apart, so that who lets a value go needs few registers.

@@ -30,7 +30,7 @@ impl<T> Model for Numbered<T> {
 
 /// The slot of a number.
 #[inline(always)]
-fn slot_of(number: i32) -> usize
+pub(crate) fn slot_of(number: i32) -> usize
     requires { pos 0 ≤ℤ number }
     ensures { number ≡ pos result }
 {
