@@ -26,7 +26,7 @@ use Rattle.mid_program.specs.Mid.{Kind, Boxed, Unboxed, ArrayKind, Slot, Global,
 use Rattle.mid_program.specs.Sorted.{count_of}
 use Rattle.lower_model.specs.Arithmetic.{calculated, compared, field_checked, is_value, may_be_text, numbers_compared, texts_beside, values_compared, zeroed_if}
 use Rattle.wasm_types.specs.Instructions.{depths}
-use Rattle.lower_model.specs.Emission.{Layout, Immediate, FieldOf, TextOf, NumberOf, immediate_in, immediate_or, immediate_pushed, added_or, all_appended, all_boxed, all_converted, all_emitted, all_freed, all_given, all_given_pushed, all_pushed, array_meant, array_pushed, asked, assigned, assigned_by_number, dropped, emitted, bound_read, field_in, field_or, handle_stored, keeping_closed, left_over, listed_asked, name_read, one_given, one_pushed, pending_assigned, performed, sequence_closed, slot_read, slot_set, tested, text_kept, text_let_go, value_stored}
+use Rattle.lower_model.specs.Emission.{Layout, Immediate, FieldOf, TextOf, NumberOf, immediate_in, immediate_or, immediate_pushed, added_or, all_appended, all_boxed, all_converted, all_emitted, all_freed, all_given, all_given_pushed, all_pushed, array_meant, array_pushed, asked, assigned, assigned_by_number, dropped, emitted, bound_read, field_in, field_or, handle_stored, keeping_closed, left_over, listed_asked, name_read, one_given, one_pushed, pending_assigned, performed, sequence_closed, slot_read, slot_set, tested, text_kept, text_let_go, text_stored, value_stored}
 use Rattle.lower_model.specs.Places.{Bases, made_in}
 use Rattle.lower_model.specs.Quick.{Addition, Holder, addition_in, addition_names, all_unsure, joined}
 use Rattle.lower_model.specs.Small.{answer_kept, bound_from, code_number, converted, emit, emit_if, kept, kept_code, kept_done, kept_number, kept_value, moved_from, released, to_number, to_value, truth, unused}
@@ -174,9 +174,15 @@ module _ (y : Layout) where
     stored_deep o f t put r = record { count = let h = r.count in omega (arith, h) }
 
   module _ {k : Instructions} {m : ℕ} where
+    beside_name_deep : (o : Bool) (i : ℕ) (f : Form) (t : ℕ) → Deep k m → Deep (text_stored y o i f t k) m
+    beside_name_deep o i NumberOrText t r = past _ (past _ (past _ (choice (handle_deep o t _ none) none r)))
+    beside_name_deep o i f t r = r
+
+  module _ {k : Instructions} {m : ℕ} where
     set_deep : (o : Bool) (x : Slot) (f : Form) (t : ℕ) → Deep k m → Deep (slot_set y o x f t k) m
     set_deep o (Global false i) f t r = past _ (past _ (stored_deep o f t _ r))
-    set_deep o (Global true i) f t r = record { count = let h = r.count in omega (arith, h) }
+    set_deep o (Global true i) f t r =
+        past _ (past _ (past _ (choice (past _ (past _ (past _ (past _ none)))) none (beside_name_deep o i f t (past _ (past _ r))))))
     set_deep o (Parameter false i) f t r = past _ (past _ (stored_deep o f t _ r))
     set_deep o (Parameter true i) f t r = record { count = let h = r.count in omega (arith, h) }
 

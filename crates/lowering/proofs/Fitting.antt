@@ -8,7 +8,7 @@ use Rattle.mid_program.specs.declared.mid.Operation.TheVariants.{Inline}
 use Rattle.mid_program.specs.MidMeaning.{three_values}
 use Rattle.mid_program.specs.Mid as plain
 use Rattle.sem_scripts.specs.Names.{ArrayName, Numbered, Given}
-use Rattle.mid_program.specs.Mid.{Kind, Boxed, Unboxed, ArrayKind, Slot, Global, Parameter, Code, Do, Over, Compare, Call, Ask, AskLine, FileLine, Replace, Number, Text, Unset, Get, Set, Array, IsOpen, Choose, Seq, Let, Bound, Codes, End, At, Fixed, Fresh, Step, Eval, Block, If, Loop, Each, Break, Continue, Next, Exit, ExitWith, Return, Mark, Steps, NoStep, Then, a_value, arguments, form_of, parameters_at}
+use Rattle.mid_program.specs.Mid.{Kind, Boxed, Unboxed, ArrayKind, Slot, Global, Parameter, Code, Do, Over, Compare, Call, Ask, AskLine, FileLine, Replace, Number, Text, Unset, Get, Set, Array, IsOpen, Choose, Seq, Let, Bound, Codes, End, At, Fixed, Fresh, Step, Eval, Block, If, Loop, Each, Break, Continue, Next, Exit, ExitWith, Return, Mark, Steps, NoStep, Then, a_value, arguments, form_of, source_of, parameters_at}
 use Rattle.mid_program.specs.Sorted.{Context, all_sorted, are_missing, all_values, are_enough, fit_call, fit_row, fits, is_array_place, is_chosen, is_done_here, is_dropped, is_kept, is_slot, is_tested, keeps_well, scalar_kind, sorted, step_sorted, steps_sorted, stores_well, takes, test_sorted}
 use Rattle.lower_model.proofs.Reading.{kind_below}
 use Rattle.lower_model.specs.Emission.{Layout}
@@ -176,8 +176,8 @@ module _ {c : Context} {y : Layout} (n : Named c y) where
     code_fits fs Unset t w d s r = within Unset t w d r
     code_fits fs (Get x) t w d s r = (within (Get x) t w d r, slot_fits x s)
     code_fits fs (Set x e) t w d s r =
-        let s1 = and_parts (is_slot c x) (takes x (form_of fs e) && sorted c fs e) s in
-        let s2 = and_parts (takes x (form_of fs e)) (sorted c fs e) s1.1 in
+        let s1 = and_parts (is_slot c x) (takes c x (source_of e) (form_of fs e) && sorted c fs e) s in
+        let s2 = and_parts (takes c x (source_of e) (form_of fs e)) (sorted c fs e) s1.1 in
         (within (Set x e) t w d r, (slot_fits x s1.0, code_fits fs e t w d s2.1 (record { places = r.places; arrays = r.arrays; labels = r.labels })))
     code_fits fs (Array a) t w d s r = let here = within (Array a) t w d r in let there = array_fits a s in search rules
     code_fits fs (IsOpen i) t w d s r =
