@@ -85,7 +85,8 @@ fn enclosed(alloc: Global, code: Emitted) -> Result<Rc<Vec<Instr>>, AllocError>
     ensures { IfOk result (λ inner. (whole : Instructions) → Reads code Done whole
         → views inner.value.items ≡ whole) }
 {
-    let code = trimmed(code.all()?);
+    let all = code.all()?;
+    let code = trimmed(all);
     Ok(Rc::new(alloc, code)?)
 }
 

@@ -9,7 +9,7 @@ ghost use Rattle.lower_pieces.specs.Emits.{followed, Emits, Holds, Reads};
 use std::alloc::{AllocError, Global};
 use wasm_types::{Instr, Simple};
 
-/// For how many instructions there is room at first: most lists have fewer.
+/// For how many instructions there is room at first, and at least for how many more then: most lists have fewer.
 pub(crate) const ROOM: usize = 8;
 
 /// Instructions that were emitted. Once memory runs out for one no more are taken: only who asks for all of them learns of it.
@@ -41,8 +41,10 @@ impl Emitted {
         if self.is_refused {
             return false;
         }
-        let more = if self.code.is_empty() { ROOM } else { 1 };
-        self.is_refused = self.code.reserve(more).is_err();
+        if self.code.len() < self.code.capacity() {
+            return true;
+        }
+        self.is_refused = self.code.reserve(ROOM).is_err();
         !self.is_refused
     }
 
