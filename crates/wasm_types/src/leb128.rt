@@ -172,15 +172,15 @@ fn push_signed(out: &mut Vec<u8>, most: u8, half: u64, n: u64) -> Result<(), All
     Ok(())
 }
 
-/// Appends the shortest form of an unsigned integer, or leaves the vector as it was.
+/// Appends the shortest form of an unsigned integer, or leaves the vector as it was. Mostly it is one byte, and there is room for it.
 #[tactic(auto, unfolding(crate::specs::Leb128Texts::u32_text))]
-#[inline]
+#[inline(always)]
 pub fn push_u32(out: &mut Vec<u8>, n: u32) -> Result<(), AllocError>
     ensures done { OnOk result (out.new.items ≡ out.old.items ++ u32_text n) }
     ensures undone { OnErr result (out.new.items ≡ out.old.items) }
 {
-    if n < 128 {
-        out.push(n as u8)?;
+    if n < 128 && out.len() < out.capacity() {
+        out.push_reserved(n as u8);
         return Ok(());
     }
     push_unsigned(out, 5, n as u64)
@@ -188,13 +188,13 @@ pub fn push_u32(out: &mut Vec<u8>, n: u32) -> Result<(), AllocError>
 
 /// Appends the shortest form of the signed integer of 32 bits with this bit pattern, or leaves the vector as it was.
 #[tactic(auto, unfolding(crate::specs::Leb128Texts::s32_text))]
-#[inline]
+#[inline(always)]
 pub fn push_s32(out: &mut Vec<u8>, n: u32) -> Result<(), AllocError>
     ensures done { OnOk result (out.new.items ≡ out.old.items ++ s32_text n) }
     ensures undone { OnErr result (out.new.items ≡ out.old.items) }
 {
-    if n < 64 || 4294967232 <= n {
-        out.push((n % 128) as u8)?;
+    if (n < 64 || 4294967232 <= n) && out.len() < out.capacity() {
+        out.push_reserved((n % 128) as u8);
         return Ok(());
     }
     push_signed(out, 5, 2147483648, n as u64)
@@ -202,13 +202,13 @@ pub fn push_s32(out: &mut Vec<u8>, n: u32) -> Result<(), AllocError>
 
 /// Appends the shortest form of the signed integer of 64 bits with this bit pattern, or leaves the vector as it was.
 #[tactic(auto, unfolding(crate::specs::Leb128Texts::s64_text))]
-#[inline]
+#[inline(always)]
 pub fn push_s64(out: &mut Vec<u8>, n: u64) -> Result<(), AllocError>
     ensures done { OnOk result (out.new.items ≡ out.old.items ++ s64_text n) }
     ensures undone { OnErr result (out.new.items ≡ out.old.items) }
 {
-    if n < 64 || 18446744073709551552 <= n {
-        out.push((n % 128) as u8)?;
+    if (n < 64 || 18446744073709551552 <= n) && out.len() < out.capacity() {
+        out.push_reserved((n % 128) as u8);
         return Ok(());
     }
     push_signed(out, 10, 9223372036854775808, n)
