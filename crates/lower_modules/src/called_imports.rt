@@ -182,7 +182,7 @@ fn renumbered_other(
     renumbered(alloc, numbers, code)
 }
 
-/// Code whose calls have the new numbers.
+/// Code whose calls have the new numbers. Most instructions have no body: these go straight into the list.
 #[cycle(renumbering)]
 pub(crate) fn renumbered(
     alloc: Global,
@@ -194,8 +194,15 @@ pub(crate) fn renumbered(
 {
     let mut out = Vec::with_capacity(alloc, code.len())?;
     for instr in code {
-        let made = renumbered_one(alloc, numbers, instr)?;
-        out.push_reserved(made);
+        match instr {
+            Instr::Plain(simple) => {
+                out.push_reserved(Instr::Plain(renumbered_simple(numbers, *simple)));
+            }
+            _ => {
+                let made = renumbered_one(alloc, numbers, instr)?;
+                out.push_reserved(made);
+            }
+        }
     }
     Ok(Rc::new(alloc, out)?)
 }

@@ -1,4 +1,4 @@
-use Rattle.std.proofs.Common.{◌≡◌, ◌+◌, ◌≤◌, drop, length}
+use Rattle.std.proofs.Common.{◌≡◌, ◌≤◌, drop, length}
 use Rattle.std.specs.Vec.{vec_len, vec_capacity}
 use Rattle.wasm_types.specs.View.{views}
 use Rattle.wasm_types.proofs.Views.{followed_by}

@@ -1,4 +1,4 @@
-use Rattle.std.proofs.Common.{◌≡◌, ℕ, ◌+◌, ◌-◌, ◌≤◌, length, get_or, sym, ap, ◌∙◌, arith}
+use Rattle.std.proofs.Common.{◌≡◌, ℕ, ◌+◌, ◌-◌, length, get_or, sym, ap, ◌∙◌, arith}
 use Rattle.lower_model.specs.Modules.{new_number}
 use Rattle.lower_modules.proofs.NewNumbers.{number_past, number_small}
 use Rattle.lower_modules.proofs.called_imports.Numbers.at.Goals as goal
