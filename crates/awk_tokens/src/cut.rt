@@ -80,7 +80,7 @@ pub(crate) fn cut<'a>(alloc: Global, script: &'a [u8]) -> Result<Vec<Token<'a>>,
     ensures found { IfOk result (λ ts. Ok (map spelled ts.items) ≡ raw_of script.now) }
     ensures refused { IfErr result (λ e. (e ≡ NoMemory) ⊎ (Err e ≡ raw_of script.now)) }
 {
-    let mut tokens = Vec::with_capacity(alloc, script.len() / 8)?;
+    let mut tokens = Vec::with_capacity(alloc, script.len() / 4)?;
     let mut before = Before::new(alloc);
     let mut line: usize = 1;
     let mut rest = script;
