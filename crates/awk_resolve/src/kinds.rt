@@ -1,8 +1,8 @@
 //! The kinds of a script's variables.
 
-ghost use Rattle.std.specs.Prelude.{◌≡◌, ◌<◌, All, length, IfOk};
+ghost use Rattle.std.specs.Prelude.{◌≡◌, ◌<◌, ◌&&◌, ℕ, false, All, length, IfOk};
 ghost use Rattle.awk_grammar.specs.Marks.{Array, Scalar};
-ghost use Rattle.awk_grammar.specs.Kinds.{name_of, variables, is_used_as, clashing, needing, clash, first};
+ghost use Rattle.awk_grammar.specs.Kinds.{Key, key_in, name_of, variables, is_used_as, clashing, needing, clash, first};
 ghost use Rattle.awk_grammar.specs.Least.{IsLeast};
 ghost use Rattle.awk_resolve.specs.Marked.{is_marked, is_marked_in};
 ghost use Rattle.awk_resolve.specs.View.{view_mark, view_marks, view_place};
@@ -75,6 +75,19 @@ pub(crate) fn kinds_of<'a>(
     })
 }
 
+/// Whether a number is marked in two lists.
+fn is_any_in_both(first: &[bool], second: &[bool]) -> bool
+    requires { length first.now ≡ length second.now }
+    ensures { result ≡ false → (n : ℕ) → (is_marked first.now n && is_marked second.now n) ≡ false }
+{
+    for number in 0..first.len() {
+        if first[number] && second[number] {
+            return true;
+        }
+    }
+    false
+}
+
 impl<'a> Variable<'a> {
     /// Its name.
     pub fn name(self) -> &'a [u8]
@@ -124,15 +137,41 @@ impl<'a> Kinds<'a> {
         }
     }
 
-    /// The name that a mark shows to be of both kinds.
-    fn clash(&self, scopes: &Scopes<'a>, mark: Mark<'a>) -> Option<&'a [u8]>
+    /// Whether some variable is of both kinds.
+    fn has_clash(&self) -> bool
+        ensures { result ≡ false → (k : Key) → (arrays_in self.now k && scalars_in self.now k) ≡ false }
+    {
+        is_any_in_both(&self.arrays, &self.scalars)
+    }
+
+    /// A name of both kinds, where some variable may be so: else it need not be found.
+    fn clash_of(
+        &self,
+        some: bool,
+        scopes: &Scopes<'a>,
+        place: Option<&'a [u8]>,
+        name: &'a [u8],
+    ) -> Option<&'a [u8]>
+        requires { some ≡ false → (k : Key) → (arrays_in self.now k && scalars_in self.now k) ≡ false }
+        ensures { view_place result ≡ clashing (arrays_in self.now) (scalars_in self.now)
+            (key_in (functions_in scopes.now) (view_place place.entry) name.now) }
+    {
+        if !some {
+            return None;
+        }
+        self.clashing(scopes.variable_in(place, name))
+    }
+
+    /// The name that a mark shows to be of both kinds, where some variable may be so.
+    fn clash(&self, some: bool, scopes: &Scopes<'a>, mark: Mark<'a>) -> Option<&'a [u8]>
+        requires { some ≡ false → (k : Key) → (arrays_in self.now k && scalars_in self.now k) ≡ false }
         ensures { view_place result ≡ clash (arrays_in self.now) (scalars_in self.now)
             (functions_in scopes.now) (view_mark mark.entry) }
     {
         match mark {
             Mark::Parameter(function, name) => self.clashing(Variable::Inside(function, name)),
             Mark::Used(_, place, name) | Mark::Given(_, _, place, name) => {
-                self.clashing(scopes.variable_in(place, name))
+                self.clash_of(some, scopes, place, name)
             }
             Mark::Computed(function, argument) => {
                 self.needing(scopes.parameter_at(function, argument))
@@ -146,8 +185,9 @@ impl<'a> Kinds<'a> {
         ensures { view_place result ≡ first (clash (arrays_in self.now) (scalars_in self.now)
             (functions_in scopes.now)) (view_marks marks.now) }
     {
+        let some = self.has_clash();
         for mark in marks {
-            let found = self.clash(scopes, *mark);
+            let found = self.clash(some, scopes, *mark);
             if found.is_some() {
                 return found;
             }

@@ -11,7 +11,6 @@ use crate::before::Before;
 use crate::endings::{with_inserted, without_dropped};
 use crate::front::front;
 use crate::token::{Piece, Punctuator, Token, TokenFault, TokenKind};
-use latched::push;
 use std::alloc::{AllocError, AllocFailed, Global};
 
 impl From<AllocError> for TokenFault {
@@ -81,7 +80,7 @@ pub(crate) fn cut<'a>(alloc: Global, script: &'a [u8]) -> Result<Vec<Token<'a>>,
     ensures found { IfOk result (λ ts. Ok (map spelled ts.items) ≡ raw_of script.now) }
     ensures refused { IfErr result (λ e. (e ≡ NoMemory) ⊎ (Err e ≡ raw_of script.now)) }
 {
-    let mut tokens = Vec::new(alloc);
+    let mut tokens = Vec::with_capacity(alloc, script.len() / 4)?;
     let mut before = Before::new(alloc);
     let mut line: usize = 1;
     let mut rest = script;
@@ -94,7 +93,7 @@ pub(crate) fn cut<'a>(alloc: Global, script: &'a [u8]) -> Result<Vec<Token<'a>>,
         let kept = kind_kept(&before, piece, after);
         if let Some(kind) = kept {
             before.push(kind)?;
-            push(&mut tokens, Token { kind, line, text })?;
+            tokens.push(Token { kind, line, text })?;
         }
         line += count_newlines(text);
         rest = after;

@@ -6,7 +6,6 @@ ghost use Rattle.awk_tokens.specs.Views.{spelled};
 
 use crate::reserved_words::Keyword;
 use crate::token::{Punctuator, Token, TokenKind};
-use latched::push;
 use std::alloc::{AllocError, Global};
 
 fn ends_statement(kind: TokenKind) -> bool
@@ -47,13 +46,13 @@ pub(crate) fn without_dropped<'a>(
 ) -> Result<Vec<Token<'a>>, AllocError>
     ensures { IfOk result (λ ts. map spelled ts.items ≡ rule_two false (map spelled tokens.now)) }
 {
-    let mut kept = Vec::new(alloc);
+    let mut kept = Vec::with_capacity(alloc, tokens.len())?;
     let mut brace = false;
     let mut rest = tokens;
     while let [token, after @ ..] = rest {
         let dropped = brace && ends_statement(token.kind) && continues(after);
         if !dropped {
-            push(&mut kept, *token)?;
+            kept.push(*token)?;
         }
         brace = closes_brace(token.kind);
         rest = after;
@@ -102,19 +101,19 @@ pub(crate) fn with_inserted<'a>(
 ) -> Result<Vec<Token<'a>>, AllocError>
     ensures { IfOk result (λ ts. map spelled ts.items ≡ rule_three None (map spelled tokens.now)) }
 {
-    let mut ended = Vec::new(alloc);
+    let mut ended = Vec::with_capacity(alloc, tokens.len())?;
     let mut former: Option<Token<'a>> = None;
     let mut rest = tokens;
     while let [token, after @ ..] = rest {
         if closes_brace(token.kind) && needs_end(former) {
-            push(&mut ended, inserted_after(former))?;
+            ended.push(inserted_after(former))?;
         }
-        push(&mut ended, *token)?;
+        ended.push(*token)?;
         former = Some(*token);
         rest = after;
     }
     if stays_open(former) {
-        push(&mut ended, inserted_after(former))?;
+        ended.push(inserted_after(former))?;
     }
     Ok(ended)
 }

@@ -1,6 +1,6 @@
 //! The longest piece at the front of bytes.
 
-ghost use Rattle.std.specs.Prelude.{◌≡◌, length, false};
+ghost use Rattle.std.specs.Prelude.{◌≡◌, ◌∷◌, [], length, false};
 ghost use Rattle.awk_tokens.specs.declared.token.Piece.TheVariants.{Token};
 ghost use Rattle.awk_tokens.specs.Words.{entry, reserved_word_of};
 ghost use Rattle.awk_tokens.specs.Pieces.{goes_on, on_line, starts_name, word_kind, punctuators};
@@ -82,60 +82,70 @@ fn name(bytes: &[u8]) -> Option<(Piece, usize)>
     }
 }
 
-const PUNCTUATORS: [(&[u8], Punctuator); 39] = [
-    (b"{", Punctuator::OpenBrace),
-    (b"}", Punctuator::CloseBrace),
-    (b"(", Punctuator::OpenParen),
-    (b")", Punctuator::CloseParen),
-    (b"[", Punctuator::OpenBracket),
-    (b"]", Punctuator::CloseBracket),
-    (b";", Punctuator::Semicolon),
-    (b",", Punctuator::Comma),
-    (b"+", Punctuator::Plus),
-    (b"-", Punctuator::Minus),
-    (b"*", Punctuator::Star),
-    (b"/", Punctuator::Slash),
-    (b"%", Punctuator::Percent),
-    (b"^", Punctuator::Caret),
-    (b"!", Punctuator::Bang),
-    (b">", Punctuator::Greater),
-    (b"<", Punctuator::Less),
-    (b"|", Punctuator::Pipe),
-    (b"?", Punctuator::Question),
-    (b":", Punctuator::Colon),
-    (b"~", Punctuator::Tilde),
-    (b"$", Punctuator::Dollar),
-    (b"=", Punctuator::Assign),
-    (b"+=", Punctuator::PlusAssign),
-    (b"-=", Punctuator::MinusAssign),
-    (b"*=", Punctuator::StarAssign),
-    (b"/=", Punctuator::SlashAssign),
-    (b"%=", Punctuator::PercentAssign),
-    (b"^=", Punctuator::CaretAssign),
-    (b"==", Punctuator::Equal),
-    (b"<=", Punctuator::LessEqual),
-    (b">=", Punctuator::GreaterEqual),
-    (b"!=", Punctuator::NotEqual),
-    (b"!~", Punctuator::NotTilde),
-    (b"++", Punctuator::Increment),
-    (b"--", Punctuator::Decrement),
-    (b"&&", Punctuator::And),
-    (b"||", Punctuator::Or),
-    (b">>", Punctuator::Append),
-];
-
+/// The punctuator that a byte is.
 #[tactic(auto, unfolding(crate::specs::Pieces::punctuators))]
-fn mark(text: &[u8]) -> Option<Punctuator>
-    ensures { result ≡ entry text.now punctuators }
+fn short_mark(byte: u8) -> Option<Punctuator>
+    ensures { result ≡ entry (byte ∷ []) punctuators }
 {
-    entry(text, &PUNCTUATORS)
+    match byte {
+        b'{' => Some(Punctuator::OpenBrace),
+        b'}' => Some(Punctuator::CloseBrace),
+        b'(' => Some(Punctuator::OpenParen),
+        b')' => Some(Punctuator::CloseParen),
+        b'[' => Some(Punctuator::OpenBracket),
+        b']' => Some(Punctuator::CloseBracket),
+        b';' => Some(Punctuator::Semicolon),
+        b',' => Some(Punctuator::Comma),
+        b'+' => Some(Punctuator::Plus),
+        b'-' => Some(Punctuator::Minus),
+        b'*' => Some(Punctuator::Star),
+        b'/' => Some(Punctuator::Slash),
+        b'%' => Some(Punctuator::Percent),
+        b'^' => Some(Punctuator::Caret),
+        b'!' => Some(Punctuator::Bang),
+        b'>' => Some(Punctuator::Greater),
+        b'<' => Some(Punctuator::Less),
+        b'|' => Some(Punctuator::Pipe),
+        b'?' => Some(Punctuator::Question),
+        b':' => Some(Punctuator::Colon),
+        b'~' => Some(Punctuator::Tilde),
+        b'$' => Some(Punctuator::Dollar),
+        b'=' => Some(Punctuator::Assign),
+        _ => None,
+    }
+}
+
+/// The punctuator that two bytes are.
+#[tactic(auto, unfolding(crate::specs::Pieces::punctuators))]
+fn long_mark(first: u8, second: u8) -> Option<Punctuator>
+    ensures { result ≡ entry (first ∷ second ∷ []) punctuators }
+{
+    match (first, second) {
+        (b'+', b'=') => Some(Punctuator::PlusAssign),
+        (b'-', b'=') => Some(Punctuator::MinusAssign),
+        (b'*', b'=') => Some(Punctuator::StarAssign),
+        (b'/', b'=') => Some(Punctuator::SlashAssign),
+        (b'%', b'=') => Some(Punctuator::PercentAssign),
+        (b'^', b'=') => Some(Punctuator::CaretAssign),
+        (b'=', b'=') => Some(Punctuator::Equal),
+        (b'<', b'=') => Some(Punctuator::LessEqual),
+        (b'>', b'=') => Some(Punctuator::GreaterEqual),
+        (b'!', b'=') => Some(Punctuator::NotEqual),
+        (b'!', b'~') => Some(Punctuator::NotTilde),
+        (b'+', b'+') => Some(Punctuator::Increment),
+        (b'-', b'-') => Some(Punctuator::Decrement),
+        (b'&', b'&') => Some(Punctuator::And),
+        (b'|', b'|') => Some(Punctuator::Or),
+        (b'>', b'>') => Some(Punctuator::Append),
+        _ => None,
+    }
 }
 
 /// The punctuator that this byte is.
-fn short(byte: &[u8]) -> Option<(Piece, usize)>
-    ensures { result ≡ shorter (entry byte.now punctuators) }
+fn short(byte: u8) -> Option<(Piece, usize)>
+    ensures { result ≡ shorter (entry (byte ∷ []) punctuators) }
 {
-    match mark(byte) {
+    match short_mark(byte) {
         Some(p) => Some((Piece::Token(TokenKind::Punctuator(p)), 0)),
         None => None,
     }
@@ -147,10 +157,10 @@ fn punctuator(bytes: &[u8]) -> Option<(Piece, usize)>
 {
     match bytes {
         [] => None,
-        [_] => short(bytes),
-        _ => match mark(&bytes[..2]) {
+        [first] => short(*first),
+        [first, second, ..] => match long_mark(*first, *second) {
             Some(p) => Some((Piece::Token(TokenKind::Punctuator(p)), 1)),
-            None => short(&bytes[..1]),
+            None => short(*first),
         },
     }
 }

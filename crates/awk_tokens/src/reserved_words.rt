@@ -93,7 +93,7 @@ pub(crate) fn entry<T: Copy>(text: &[u8], table: &[(&[u8], T)]) -> Option<T>
 {
     let mut rest = table;
     while let [(word, meaning), after @ ..] = rest {
-        if text == *word {
+        if text.len() == word.len() && text == *word {
             return Some(*meaning);
         }
         rest = after;

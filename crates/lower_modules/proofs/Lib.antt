@@ -1,6 +1,7 @@
 mod StepsLemmas
 mod Pieces
 mod Noted
+mod NewNumbers
 pub mod Spelled
 pub mod LengthsLemmas
 pub mod Depths

@@ -1,6 +1,6 @@
 //! Which imports are called, and the numbers of functions once the others are left out.
 ghost use Rattle.std.specs.Prelude.{◌≡◌, ◌≤◌, length, map, IfOk};
-ghost use Rattle.lower_modules.specs.Calls.{noted};
+ghost use Rattle.lower_modules.specs.Calls.{noted, AreNewNumbers};
 ghost use Rattle.lower_modules.specs.View.{view_functions};
 ghost use Rattle.host_imports.specs.Imports.{imports};
 ghost use Rattle.lower_model.specs.Modules.{called_from, calls_by, calls_in, chosen, is_call, new_number, renumbered, renumbered_one, renumbered_simple};
@@ -9,7 +9,7 @@ ghost use Rattle.wasm_types.specs.View.{view, views};
 
 use crate::function::Function;
 use host_imports::{IMPORT_COUNT, Import};
-use latched::{LatchedVec, boxed};
+use latched::boxed;
 use std::alloc::{AllocError, Global};
 use std::rc::Rc;
 use wasm_types::{Instr, Simple};
@@ -84,30 +84,59 @@ pub(crate) fn chosen(alloc: Global, called: &[bool]) -> Result<Vec<Import>, Allo
     Ok(used)
 }
 
-/// The number of a function once imports are left out that are not called.
-fn new_number(called: &[bool], number: u32) -> u32
-    ensures number { result ≡ new_number called.now number }
-    ensures less { result ≤ number }
+/// The numbers of the imports, and of the first function after them, once those are left out that are not called.
+fn new_numbers(called: &[bool]) -> [u32; IMPORT_COUNT + 1]
+    requires { length called.now ≡ length imports }
+    ensures { AreNewNumbers called.now result }
 {
-    match called {
-        [] => number,
-        [first, rest @ ..] => {
-            if number == 0 {
-                0
-            } else if *first {
-                new_number(rest, number - 1) + 1
-            } else {
-                new_number(rest, number - 1)
-            }
+    let mut numbers = [0; IMPORT_COUNT + 1];
+    let mut next = 0;
+    for place in 0..IMPORT_COUNT {
+        if called[place] {
+            next += 1;
+        }
+        numbers[place + 1] = next;
+    }
+    numbers
+}
+
+/// The numbers of functions once imports are left out that are not called. They are counted once, since code has many calls.
+#[derive(Drop)]
+pub(crate) struct Numbers<'a> {
+    called: &'a [bool],
+    first: [u32; IMPORT_COUNT + 1],
+    ghost whole: { length called.now ≡ length imports },
+    ghost counted: { AreNewNumbers called.now first },
+}
+
+impl<'a> Numbers<'a> {
+    /// Those where these imports are called.
+    pub(crate) fn of(called: &'a [bool]) -> Self
+        requires { length called.now ≡ length imports }
+        ensures { result.called.now ≡ called.now }
+    {
+        let first = new_numbers(called);
+        Numbers { called, first }
+    }
+
+    /// The new number of a function.
+    fn at(&self, number: u32) -> u32
+        ensures { result ≡ new_number self.now.called.now number }
+    {
+        let place = number as usize;
+        if place <= IMPORT_COUNT {
+            self.first[place]
+        } else {
+            self.first[IMPORT_COUNT] + (number - IMPORT_COUNT as u32)
         }
     }
 }
 
-fn renumbered_simple(called: &[bool], simple: Simple) -> Simple
-    ensures { result ≡ renumbered_simple called.now simple }
+fn renumbered_simple(numbers: &Numbers<'_>, simple: Simple) -> Simple
+    ensures { result ≡ renumbered_simple numbers.now.called.now simple }
 {
     match simple {
-        Simple::Call(number) => Simple::Call(new_number(called, number)),
+        Simple::Call(number) => Simple::Call(numbers.at(number)),
         _ => simple,
     }
 }
@@ -122,35 +151,58 @@ fn copied(alloc: Global, labels: &[u32], last: u32) -> Result<Instr, AllocError>
 
 /// An instruction whose calls have the new numbers.
 #[cycle(renumbering)]
-fn renumbered_one(alloc: Global, called: &[bool], instr: &Instr) -> Result<Instr, AllocError>
-    ensures { IfOk result (λ made. view made ≡ renumbered_one called.now (view instr.now)) }
+fn renumbered_one(alloc: Global, numbers: &Numbers<'_>, instr: &Instr) -> Result<Instr, AllocError>
+    ensures { IfOk result (λ made. view made ≡ renumbered_one numbers.now.called.now (view instr.now)) }
 {
     match instr {
-        Instr::Plain(simple) => Ok(Instr::Plain(renumbered_simple(called, *simple))),
+        Instr::Plain(simple) => Ok(Instr::Plain(renumbered_simple(numbers, *simple))),
         Instr::BrTable(labels, last) => copied(alloc, labels, *last),
-        Instr::Block(kind, inner) => Ok(Instr::Block(*kind, renumbered(alloc, called, inner)?)),
-        Instr::Loop(kind, inner) => Ok(Instr::Loop(*kind, renumbered(alloc, called, inner)?)),
+        Instr::Block(kind, inner) => Ok(Instr::Block(*kind, renumbered(alloc, numbers, inner)?)),
+        Instr::Loop(kind, inner) => Ok(Instr::Loop(*kind, renumbered(alloc, numbers, inner)?)),
         Instr::If(kind, inner, other) => {
-            let inner = renumbered(alloc, called, inner)?;
-            Ok(Instr::If(*kind, inner, renumbered(alloc, called, other)?))
+            let inner = renumbered(alloc, numbers, inner)?;
+            Ok(Instr::If(*kind, inner, renumbered_other(alloc, numbers, other)?))
         }
     }
 }
 
-/// Code whose calls have the new numbers.
+/// What is done otherwise. That is mostly nothing, which is shared.
+#[cycle(renumbering)]
+fn renumbered_other(
+    alloc: Global,
+    numbers: &Numbers<'_>,
+    code: &Rc<Vec<Instr>>,
+) -> Result<Rc<Vec<Instr>>, AllocError>
+    ensures { IfOk result (λ out. views out.value.items
+        ≡ renumbered numbers.now.called.now (views code.now.value.items)) }
+{
+    if code.is_empty() {
+        return code.clone();
+    }
+    renumbered(alloc, numbers, code)
+}
+
+/// Code whose calls have the new numbers. Most instructions have no body: these go straight into the list.
 #[cycle(renumbering)]
 pub(crate) fn renumbered(
     alloc: Global,
-    called: &[bool],
+    numbers: &Numbers<'_>,
     code: &[Instr],
 ) -> Result<Rc<Vec<Instr>>, AllocError>
     ensures { IfOk result
-        (λ out. views out.value.items ≡ renumbered called.now (views code.now)) }
+        (λ out. views out.value.items ≡ renumbered numbers.now.called.now (views code.now)) }
 {
-    let mut out = LatchedVec::from_vec(Vec::with_capacity(alloc, code.len())?);
+    let mut out = Vec::with_capacity(alloc, code.len())?;
     for instr in code {
-        out.push_made(renumbered_one(alloc, called, instr));
+        match instr {
+            Instr::Plain(simple) => {
+                out.push_reserved(Instr::Plain(renumbered_simple(numbers, *simple)));
+            }
+            _ => {
+                let made = renumbered_one(alloc, numbers, instr)?;
+                out.push_reserved(made);
+            }
+        }
     }
-    let out = out.into_vec()?;
     Ok(Rc::new(alloc, out)?)
 }

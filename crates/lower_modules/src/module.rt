@@ -10,7 +10,7 @@ ghost use Rattle.lower_model.specs.Modules.{all_callees, called_from, callee_typ
 ghost use Rattle.lower_model.specs.Places.{memory_of};
 ghost use Rattle.wasm_types.specs.View.{signature_of, view_module};
 
-use crate::called_imports::{called_imports, chosen};
+use crate::called_imports::{Numbers, called_imports, chosen};
 use crate::function::Function;
 use crate::lengths::least_among;
 use crate::sections::{
@@ -61,11 +61,12 @@ fn code_parts(alloc: Global, functions: &[Function]) -> Result<CodeParts, AllocE
     let called = called_imports(functions);
     let used = chosen(alloc, &called)?;
     let first = used.len() as u32;
+    let numbers = Numbers::of(&called);
     Ok(CodeParts {
         first,
         types: types(alloc, &used, functions)?,
         imports: import_forms(alloc, &used)?,
-        funcs: function_forms(alloc, &called, first, functions)?,
+        funcs: function_forms(alloc, &numbers, first, functions)?,
     })
 }
 

@@ -15,7 +15,7 @@ ghost use Rattle.lower_model.specs.Small.{emit, minus_one};
 ghost use Rattle.wasm_types.specs.Syntax.{Done};
 ghost use Rattle.wasm_types.specs.View.{view_data, view_export, view_func, view_global, view_import, views};
 
-use crate::called_imports::renumbered;
+use crate::called_imports::{Numbers, renumbered};
 use crate::function::Function;
 use host_imports::Import;
 use latched::{LatchedVec, single};
@@ -56,7 +56,7 @@ pub(crate) fn import_forms(
 
 fn function_form(
     alloc: Global,
-    called: &[bool],
+    numbers: &Numbers<'_>,
     ty: u32,
     function: &Function,
 ) -> Result<Func, AllocError>
@@ -64,32 +64,32 @@ fn function_form(
       ty = ty;
       locals = function.now.locals.items;
       body =
-          renumbered called.now (views function.now.body.items);
+          renumbered numbers.now.called.now (views function.now.body.items);
     }) }
 {
     Ok(Func {
         ty,
         locals: Locals::of(alloc, &function.locals)?,
-        body: renumbered(alloc, called, &function.body)?,
+        body: renumbered(alloc, numbers, &function.body)?,
     })
 }
 
 /// Functions, each of a type of its own; the first has this number.
 pub(crate) fn function_forms(
     alloc: Global,
-    called: &[bool],
+    numbers: &Numbers<'_>,
     first: u32,
     functions: &[Function],
 ) -> Result<Vec<Func>, AllocError>
     requires { first + length functions.now ≤ 2 * most_bytes }
     ensures { IfOk result
         (λ all. map view_func all.items
-        ≡ functions_from called.now first (view_functions functions.now)) }
+        ≡ functions_from numbers.now.called.now first (view_functions functions.now)) }
 {
     let mut all = LatchedVec::new(alloc);
     let mut ty = first;
     for function in functions {
-        all.push_made(function_form(alloc, called, ty, function));
+        all.push_made(function_form(alloc, numbers, ty, function));
         ty += 1;
     }
     all.into_vec()

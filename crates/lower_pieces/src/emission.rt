@@ -9,7 +9,7 @@ ghost use Rattle.lower_model.specs.Small.{ask, ask_row, emit, emit_if, when};
 ghost use Rattle.lower_model.specs.Statements.{again, block};
 ghost use Rattle.lower_pieces.specs.Emits.{emit_all, Emits, Holds, Reads};
 
-use crate::emitted::Emitted;
+use crate::emitted::{Emitted, ROOM};
 use host_imports::Import;
 use sem_primitives::Primitive;
 use std::alloc::{AllocError, Global};
@@ -20,7 +20,7 @@ use wasm_types::{Instr, Simple};
 pub fn emit(out: &mut Emitted, simple: Simple)
     ensures { Emits out.old out.new (emit simple) }
 {
-    out.put(Instr::Plain(simple));
+    out.put_plain(simple);
 }
 
 /// Adds instructions.
@@ -69,13 +69,24 @@ pub fn code_of(alloc: Global, all: &[Simple]) -> Emitted
     code
 }
 
-/// Code within an instruction, in no more memory than it takes: nothing is added to it any more, and large scripts have much of it.
+/// A list that gives back most of the memory that it does not take: nothing is added to it any more, and large scripts have many.
+fn trimmed(code: Vec<Instr>) -> Vec<Instr>
+    ensures { result.items ≡ code.items }
+{
+    let mut code = code;
+    if code.len() + ROOM < code.capacity() {
+        code.shrink_to_fit();
+    }
+    code
+}
+
+/// Code within an instruction.
 fn enclosed(alloc: Global, code: Emitted) -> Result<Rc<Vec<Instr>>, AllocError>
     ensures { IfOk result (λ inner. (whole : Instructions) → Reads code Done whole
         → views inner.value.items ≡ whole) }
 {
-    let mut code = code.all()?;
-    code.shrink_to_fit();
+    let all = code.all()?;
+    let code = trimmed(all);
     Ok(Rc::new(alloc, code)?)
 }
 

@@ -1,18 +1,16 @@
 //! Instructions that were emitted.
-ghost use Rattle.std.specs.Prelude.{◌≡◌, ◌∷◌, ◌++◌, [], true, false, IfOk};
+ghost use Rattle.std.specs.Prelude.{◌≡◌, ◌<◌, true, false, IfOk};
+ghost use Rattle.std.specs.Vec.{vec_capacity, vec_len};
+ghost use Rattle.lower_model.specs.Small.{emit};
 ghost use Rattle.wasm_types.specs.Syntax.{Instructions, Then};
 ghost use Rattle.wasm_types.specs.View.{view};
 ghost use Rattle.lower_pieces.specs.Emits.{followed, Emits, Holds, Reads};
 
 use std::alloc::{AllocError, Global};
-use wasm_types::Instr;
+use wasm_types::{Instr, Simple};
 
-/// Adds an item to a list, and says whether memory ran out for it.
-fn is_refused<T: Drop>(items: &mut Vec<T>, item: T) -> bool
-    ensures { result ≡ false → items.new.items ≡ items.old.items ++ item ∷ [] }
-{
-    items.push(item).is_err()
-}
+/// For how many instructions there is room at first, and at least for how many more then: most lists have fewer.
+pub(crate) const ROOM: usize = 8;
 
 /// Instructions that were emitted. Once memory runs out for one no more are taken: only who asks for all of them learns of it.
 #[derive(Drop)]
@@ -32,12 +30,39 @@ impl Emitted {
         }
     }
 
+    /// Whether there is room for another one, which is made if need be.
+    #[inline(always)]
+    fn has_room(&mut self) -> bool
+        ensures code { self.new.code.items ≡ self.old.code.items }
+        ensures open { result ≡ true → self.old.is_refused ≡ false }
+        ensures room { result ≡ true → vec_len self.new.code < vec_capacity self.new.code }
+        ensures refused { result ≡ false → self.new.is_refused ≡ true }
+    {
+        if self.is_refused {
+            return false;
+        }
+        if self.code.len() < self.code.capacity() {
+            return true;
+        }
+        self.is_refused = self.code.reserve(ROOM).is_err();
+        !self.is_refused
+    }
+
     /// Adds an instruction.
     pub(crate) fn put(&mut self, instruction: Instr)
         ensures { Emits self.old self.new (Then (view instruction)) }
     {
-        if !self.is_refused {
-            self.is_refused = is_refused(&mut self.code, instruction);
+        if self.has_room() {
+            self.code.push_reserved(instruction);
+        }
+    }
+
+    /// Adds an instruction without a body.
+    pub(crate) fn put_plain(&mut self, simple: Simple)
+        ensures { Emits self.old self.new (emit simple) }
+    {
+        if self.has_room() {
+            self.code.push_reserved(Instr::Plain(simple));
         }
     }
 

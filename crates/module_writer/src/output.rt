@@ -1,13 +1,30 @@
 //! Bytes that remember why they are not all.
 
-ghost use Rattle.std.specs.Prelude.{◌≡◌, ◌++◌, [], is_some};
+ghost use Rattle.std.specs.Prelude.{◌≡◌, ◌∷◌, ◌++◌, [], is_some, OnErr, OnOk};
 ghost use Rattle.module_writer.specs.Outputs.{Adds};
 ghost use Rattle.module_writer.specs.Writers.{Fails, Gives, Written, byte_to, index_to, bits32_to, bits64_to, bytes_to};
 ghost use Rattle.module_writer.specs.Writing.{fit};
 
 use crate::fault::WriteFault;
-use std::alloc::Global;
+use std::alloc::{AllocError, Global};
 use wasm_types::{MAX_MODULE_BYTES, push_s32, push_s64, push_u32};
+
+/// For how many bytes there is room at first, if there is memory for it: most parts of a module have fewer.
+const ROOM: usize = 512;
+
+/// Adds a byte. Mostly there is room for it, which is seen without a call.
+#[inline(always)]
+fn put(bytes: &mut Vec<u8>, b: u8) -> Result<(), AllocError>
+    ensures done { OnOk result (bytes.new.items ≡ bytes.old.items ++ b ∷ []) }
+    ensures undone { OnErr result (bytes.new.items ≡ bytes.old.items) }
+{
+    if bytes.len() < bytes.capacity() {
+        bytes.push_reserved(b);
+        return Ok(());
+    }
+    bytes.push(b)?;
+    Ok(())
+}
 
 /// Bytes that are written one after the other. Once some are refused no more are taken: only who asks for all of them learns of it.
 #[derive(Drop)]
@@ -23,9 +40,13 @@ impl Output {
         ensures empty { result.bytes.items ≡ [] }
         ensures open { result.refused ≡ None }
     {
+        let bytes = match Vec::with_capacity(alloc, ROOM) {
+            Ok(bytes) => bytes,
+            Err(_) => Vec::new(alloc),
+        };
         Output {
             alloc,
-            bytes: Vec::new(alloc),
+            bytes,
             refused: None,
         }
     }
@@ -57,7 +78,7 @@ impl Output {
     {
         if self.bytes.len() >= MAX_MODULE_BYTES {
             self.refuse(WriteFault::TooLarge);
-        } else if self.refused.is_none() && self.bytes.push(b).is_err() {
+        } else if self.refused.is_none() && put(&mut self.bytes, b).is_err() {
             self.refused = Some(WriteFault::NoMemory);
         }
     }

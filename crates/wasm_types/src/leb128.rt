@@ -127,81 +127,91 @@ pub fn read_s64(bytes: &[u8]) -> Option<(i64, usize)>
     Some((n.cast_signed(), bytes.len() - rest.len()))
 }
 
-fn push_unsigned(out: &mut Vec<u8>, most: u8, n: u128) -> Result<(), AllocError>
+fn push_unsigned(out: &mut Vec<u8>, most: u8, n: u64) -> Result<(), AllocError>
     ensures done { OnOk result (out.new.items ≡ out.old.items ++ unsigned_text most n) }
     ensures undone { OnErr result (out.new.items ≡ out.old.items) }
 {
-    if most == 0 {
-        return Ok(());
-    }
-    if n < 128 {
-        out.push(n as u8)?;
-        return Ok(());
-    }
-    out.push((n % 128) as u8 + 128)?;
-    match push_unsigned(out, most - 1, n / 128) {
-        Ok(()) => Ok(()),
-        Err(fault) => {
-            out.pop();
-            Err(fault)
+    out.reserve(most as usize)?;
+    let mut left = most;
+    let mut rest = n;
+    while left > 0 {
+        if rest < 128 {
+            out.push_reserved(rest as u8);
+            return Ok(());
         }
+        out.push_reserved((rest % 128) as u8 + 128);
+        rest /= 128;
+        left -= 1;
     }
+    Ok(())
 }
 
-fn push_signed(out: &mut Vec<u8>, most: u8, half: u128, n: u128) -> Result<(), AllocError>
+fn push_signed(out: &mut Vec<u8>, most: u8, half: u64, n: u64) -> Result<(), AllocError>
     requires half { half ≤ 2 ^ 63 }
     requires small { n < 2 * half }
     requires whole { half % 64 ≡ 0 }
     ensures done { OnOk result (out.new.items ≡ out.old.items ++ signed_text most half n) }
     ensures undone { OnErr result (out.new.items ≡ out.old.items) }
 {
-    if most == 0 {
-        return Ok(());
-    }
-    if n < 64 || 2 * half <= n + 64 {
-        out.push((n % 128) as u8)?;
-        return Ok(());
-    }
-    out.push((n % 128) as u8 + 128)?;
-    let next = if n < half {
-        n / 128
-    } else {
-        n / 128 + (2 * half - 2 * half / 128)
-    };
-    match push_signed(out, most - 1, half, next) {
-        Ok(()) => Ok(()),
-        Err(fault) => {
-            out.pop();
-            Err(fault)
+    out.reserve(most as usize)?;
+    let mut left = most;
+    let mut rest = n;
+    while left > 0 {
+        if rest < 64 || half - 64 + half <= rest {
+            out.push_reserved((rest % 128) as u8);
+            return Ok(());
         }
+        out.push_reserved((rest % 128) as u8 + 128);
+        rest = if rest < half {
+            rest / 128
+        } else {
+            rest / 128 + (half - half / 64 + half)
+        };
+        left -= 1;
     }
+    Ok(())
 }
 
-/// Appends the shortest form of an unsigned integer, or leaves the vector as it was.
+/// Appends the shortest form of an unsigned integer, or leaves the vector as it was. Mostly it is one byte, and there is room for it.
 #[tactic(auto, unfolding(crate::specs::Leb128Texts::u32_text))]
+#[inline(always)]
 pub fn push_u32(out: &mut Vec<u8>, n: u32) -> Result<(), AllocError>
     ensures done { OnOk result (out.new.items ≡ out.old.items ++ u32_text n) }
     ensures undone { OnErr result (out.new.items ≡ out.old.items) }
 {
-    push_unsigned(out, 5, n as u128)
+    if n < 128 && out.len() < out.capacity() {
+        out.push_reserved(n as u8);
+        return Ok(());
+    }
+    push_unsigned(out, 5, n as u64)
 }
 
 /// Appends the shortest form of the signed integer of 32 bits with this bit pattern, or leaves the vector as it was.
 #[tactic(auto, unfolding(crate::specs::Leb128Texts::s32_text))]
+#[inline(always)]
 pub fn push_s32(out: &mut Vec<u8>, n: u32) -> Result<(), AllocError>
     ensures done { OnOk result (out.new.items ≡ out.old.items ++ s32_text n) }
     ensures undone { OnErr result (out.new.items ≡ out.old.items) }
 {
-    push_signed(out, 5, 2147483648, n as u128)
+    if (n < 64 || 4294967232 <= n) && out.len() < out.capacity() {
+        out.push_reserved((n % 128) as u8);
+        return Ok(());
+    }
+    push_signed(out, 5, 2147483648, n as u64)
 }
 
 /// Appends the shortest form of the signed integer of 64 bits with this bit pattern, or leaves the vector as it was.
 #[tactic(auto, unfolding(crate::specs::Leb128Texts::s64_text))]
+#[inline(always)]
 pub fn push_s64(out: &mut Vec<u8>, n: u64) -> Result<(), AllocError>
     ensures done { OnOk result (out.new.items ≡ out.old.items ++ s64_text n) }
     ensures undone { OnErr result (out.new.items ≡ out.old.items) }
 {
-    push_signed(out, 10, 9223372036854775808, n as u128)
+    if (n < 64 || 18446744073709551552 <= n) && out.len() < out.capacity() {
+        out.push_reserved((n % 128) as u8);
+        return Ok(());
+    }
+    push_signed(out, 10, 9223372036854775808, n)
 }
 
 /// The shortest form of an unsigned integer.

@@ -11,7 +11,7 @@ use Rattle.awk_tokens.proofs.cut.cut.Goals as goal
 use Rattle.awk_tokens.proofs.cut.cut.Goals.{in-Some-kept+in_ok-push+in_ok-push-2, in_default-kept}
 
 pub loop-rest-init : goal.loop-rest-init
-loop-rest-init c = cut_start c.new-tokens.result.items (context_of c.new-before.result) c.args.script.now c.new-tokens.ensures.items c.new-before.ensures
+loop-rest-init c = cut_start c.in_ok-tokens.tokens.items (context_of c.new-before.result) c.args.script.now c.in_ok-tokens.ensures.items c.new-before.ensures
 
 pub split_at-requires : goal.split_at-requires
 split_at-requires c =

@@ -17,6 +17,6 @@ returns-clause-parts c =
       first = first;
       types = c.in_ok-types.ensures ∙ ap (λ (us : List Import). map import_type us ++ map callee_type fs) (c.deref.ensures.value ∙ used);
       imports = c.in_ok-import_forms.ensures ∙ ap (imported_from 0) (c.deref-2.ensures.value ∙ used);
-      funcs = c.in_ok-function_forms.ensures ∙ ap (λ (bs : List Bool). functions_from bs c.len-first.result fs) called
+      funcs = c.in_ok-function_forms.ensures ∙ ap (λ (bs : List Bool). functions_from bs c.len-first.result fs) (c.of-numbers.ensures ∙ called)
           ∙ ap (λ (n : ℕ). functions_from (called_from 0 imports fs) n fs) first;
     }

@@ -11,13 +11,13 @@ use Rattle.lower_modules.proofs.sections.function_forms.Goals as goal
 
 pub loop-function-init : goal.loop-function-init
 loop-function-init c = record {
-  forms = leads_first view_func c.new-all.result (functions_from c.args.called.now c.args.first (view_functions c.args.functions.now)) (ap (map view_func) c.new-all.ensures.items);
+  forms = leads_first view_func c.new-all.result (functions_from c.args.numbers.now.called.now c.args.first (view_functions c.args.functions.now)) (ap (map view_func) c.new-all.ensures.items);
   ty = omega arith;
 }
 
 pub loop-function-preserved : goal.loop-function-preserved
 loop-function-preserved c =
-    let called = c.args.called.now in
+    let called = c.args.numbers.now.called.now in
     let fs = c.args.functions.now in
     let i = c.loop-function.function-index in
     let f = c.function-item.result in
@@ -36,5 +36,5 @@ pub returns : goal.returns
 returns c =
     let fs = c.args.functions.now in
     let i = c.loop-function.function-index in
-    let forms : List Function → List FuncForm = λ gs. functions_from c.args.called.now c.loop-function.ty (view_functions gs) in
+    let forms : List Function → List FuncForm = λ gs. functions_from c.args.numbers.now.called.now c.loop-function.ty (view_functions gs) in
     leads_all view_func {b = c.loop-function.all} (forms (drop i fs)) c.into_vec.result (ap forms (drop_all i fs c.loop-function-test.false)) c.loop-function.invariant.forms c.into_vec.ensures.all

@@ -7,6 +7,6 @@ use Rattle.lower_modules.proofs.sections.function_forms.Given as goal
 
 abbrev pub invariant-loop-function : goal.invariant-loop-function
 invariant-loop-function l = record {
-  forms : Leads view_func l.all (functions_from l.called l.ty (view_functions (drop l.function-index l.functions))) (functions_from l.called l.first (view_functions l.functions));
+  forms : Leads view_func l.all (functions_from l.numbers.called.now l.ty (view_functions (drop l.function-index l.functions))) (functions_from l.numbers.called.now l.first (view_functions l.functions));
   ty : l.ty ≡ l.first + l.function-index;
 }

@@ -9,4 +9,4 @@ use Rattle.lower_pieces.proofs.emission.enclosed.Goals as goal
 
 pub returns : goal.returns
 returns c = λ whole h.
-    ap (λ (v : Vec Instr Global). views v.items) c.in_ok-new.ensures.ok ∙ ap views c.shrink_to_fit.ensures.items ∙ sym (followed_end _) ∙ c.in_ok-code.ensures Done whole h
+    ap (λ (v : Vec Instr Global). views v.items) c.in_ok-new.ensures.ok ∙ ap views c.trimmed-code.ensures ∙ sym (followed_end _) ∙ c.in_ok-all.ensures Done whole h

@@ -1,12 +1,16 @@
-use Rattle.std.proofs.Common.{rules, ◌≡◌, false, List, ap, ◌∙◌}
+use Rattle.std.proofs.Common.{List, [], ◌∷◌, ◌++◌, ap, ◌∙◌}
 use Rattle.wasm_types.specs.declared.instr.Instr.{Instr}
 use Rattle.lower_pieces.specs.Emits.{followed}
 use Rattle.lower_pieces.proofs.Appended.{followed_push}
 use Rattle.lower_pieces.proofs.emitted.Emitted.put.Goals as goal
 
-pub returns-then-not-self : goal.returns-then-not-self
-returns-then-not-self c =
-    let fine : c.args.self.now.is_refused ≡ false = search rules in
+pub returns-then-has_room : goal.returns-then-has_room
+returns-then-has_room c =
+    let one = c.args.instruction in
     λ k w h. record {
-      reads = λ e. ap (λ (is : List Instr). followed is k) (c.is_refused-self.ensures e) ∙ followed_push c.args.self.now.code.items c.args.instruction k ∙ h.reads fine;
+      reads = λ e.
+          ap (λ (is : List Instr). followed is k) c.push_reserved.ensures.items
+          ∙ ap (λ (is : List Instr). followed (is ++ one ∷ []) k) c.has_room.ensures.code
+          ∙ followed_push c.args.self.now.code.items one k
+          ∙ h.reads (c.has_room.ensures.open c.if-has_room.true);
     }

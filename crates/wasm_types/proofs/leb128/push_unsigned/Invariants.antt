@@ -1,0 +1,13 @@
+use Rattle.std.proofs.Common.{◌≡◌, ◌≤◌, ◌+◌, ◌++◌}
+use Rattle.std.specs.Vec.{vec_len, vec_capacity}
+use Rattle.wasm_types.specs.Leb128Texts.{unsigned_text}
+use Rattle.wasm_types.proofs.leb128.push_unsigned.Given as goal
+
+abbrev pub invariant-loop-left : goal.invariant-loop-left
+invariant-loop-left l = record {
+  text : l.out.items ++ unsigned_text l.left l.rest ≡ l.initial.out.items ++ unsigned_text l.most l.n;
+  room : vec_len l.out + l.left ≤ vec_capacity l.out;
+}
+
+abbrev pub decreases-loop-left : goal.decreases-loop-left
+decreases-loop-left l = l.left
