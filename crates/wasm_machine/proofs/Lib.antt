@@ -17,7 +17,6 @@ pub mod Calls
 pub mod Entering
 pub mod KnownTurns
 pub mod Laying
-pub mod Leaving
 pub mod Placing
 pub mod Refusals
 pub mod Stretching

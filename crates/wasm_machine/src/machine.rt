@@ -12,13 +12,11 @@ ghost use Rattle.wasm_types.specs.View.{view_module};
 use crate::link::{codes_of, first_state, link};
 use crate::places::{Place, place_of};
 use crate::program::Program;
-use crate::run::{run, run_to_pause};
+use crate::run::{Parts, run, run_to_pause};
 use crate::sites::{fused_of, no_lines};
-use crate::state::State;
 use module_validator::ValidModule;
 use std::alloc::Global;
 use std::marker::Model;
-use wasm_loader::fast::Fast;
 use wasm_model::{End, HostCalls, LinkFault, MachineEnd, RunEnd};
 use wasm_store::{TrapKind, Word};
 use wasm_types::Simple;
@@ -38,13 +36,10 @@ fn tell(end: RunEnd) -> MachineEnd
     }
 }
 
-/// A machine that runs one module. `lines` has the operations of each code that was entered, of as many instructions as are known together; codes past its end
-/// have none. A contract sees its module with the numbers of its imports, its configuration, and how it ended.
+/// A machine that runs one module. A contract sees its module with the numbers of its imports, its configuration, and how it ended.
 #[derive(Drop)]
 pub struct Machine {
-    program: Program,
-    lines: Vec<Vec<Fast>>,
-    state: State,
+    parts: Parts,
     ended: Option<MachineEnd>,
 }
 
@@ -63,14 +58,15 @@ impl Model for Machine {
     ghost coded = { Prim.hlevel (codes, instructions_code (Prim.hlevel codes)) };
 
     ghost view = { λ a. record {
-      program = program_of a.program;
-      conf = conf_of a.program.codes.items a.state;
+      program = program_of a.parts.program;
+      conf = conf_of a.parts.program.codes.items a.parts.state;
       ended = a.ended;
     } };
 
-    ghost invariant = { λ a. (HasCodes a.program × HasLines a.program a.lines.items)
-        × (a.ended ≡ None → Stand a.program.codes.items a.state.frames)
-        × MachineOk (program_of a.program) (conf_of a.program.codes.items a.state) a.ended };
+    ghost invariant = { λ a. (HasCodes a.parts.program × HasLines a.parts.program a.parts.lines.items)
+        × (a.ended ≡ None → Stand a.parts.program.codes.items a.parts.state.frames)
+        × MachineOk (program_of a.parts.program)
+        (conf_of a.parts.program.codes.items a.parts.state) a.ended };
 }
 
 impl Machine {
@@ -110,9 +106,11 @@ impl Machine {
             return Err(LinkFault::NoMemory);
         };
         Ok(Machine {
-            program,
-            lines,
-            state,
+            parts: Parts {
+                program,
+                lines,
+                state,
+            },
             ended: None,
         })
     }
@@ -140,7 +138,7 @@ impl Machine {
         if let Some(end) = self.ended {
             return end;
         }
-        let end = tell(run(&mut self.state, &self.program, &mut self.lines, host, steps));
+        let end = tell(run(&mut self.parts, host, steps));
         if end != MachineEnd::OutOfSteps {
             self.ended = Some(end);
         }
@@ -168,7 +166,7 @@ impl Machine {
         if let Some(end) = self.ended {
             return (end, steps);
         }
-        let stopped = run_to_pause(&mut self.state, &self.program, &mut self.lines, host, steps);
+        let stopped = run_to_pause(&mut self.parts, host, steps);
         let end = tell(stopped.end);
         if end != MachineEnd::OutOfSteps {
             self.ended = Some(end);
@@ -180,7 +178,7 @@ impl Machine {
     pub fn waiting(&self) -> usize
         ensures { result ≡ length self.now.conf.callers }
     {
-        self.state.frames.waiting()
+        self.parts.state.frames.waiting()
     }
 
     /// Where a frame stands. The one at work has the number 0; those that wait come after it, the innermost first.
@@ -190,7 +188,7 @@ impl Machine {
         ensures within { self.now.ended ≡ None
             → IfSome result (λ place. place.function ≤ length self.now.program.whole.funcs) }
     {
-        match self.state.frames.numbered(number) {
+        match self.parts.state.frames.numbered(number) {
             Some(frame) => Some(place_of(frame)),
             None => None,
         }
@@ -198,36 +196,36 @@ impl Machine {
 
     /// The instruction at a place of the flat code, if there is one without a body.
     pub fn instruction(&self, place: Place) -> Option<Simple> {
-        self.program.instruction(place)
+        self.parts.program.instruction(place)
     }
 
     /// The number that the host has for the import that is called at a place, if one is.
     pub fn import(&self, place: Place) -> Option<u32> {
-        self.program.import(place)
+        self.parts.program.import(place)
     }
 
     /// Whether the innermost block around a place also stands around another place of that function.
     pub fn encloses(&self, outer: Place, inner: usize) -> bool {
-        self.program.encloses(outer, inner)
+        self.parts.program.encloses(outer, inner)
     }
 
     /// The word of a local of the frame at work.
     pub fn local(&self, number: u32) -> Option<Word> {
-        self.state.frames.local(number)
+        self.parts.state.frames.local(number)
     }
 
     /// The value of a global.
     pub fn global(&self, number: u32) -> Option<Word>
         ensures { result ≡ slice_get self.now.conf.globals number }
     {
-        self.state.globals.get(number)
+        self.parts.state.globals.get(number)
     }
 
     /// The bytes of the memory.
     pub fn memory(&self) -> &[u8]
         ensures { result.now ≡ self.now.conf.memory.bytes }
     {
-        self.state.memory.bytes()
+        self.parts.state.memory.bytes()
     }
 
     /// The number of the `nop` with which the statement begins that is at work at a place, among those of its function's code: the last one before the place in
@@ -235,6 +233,6 @@ impl Machine {
     pub fn statement(&self, place: Place, import: u32) -> Option<usize>
         ensures { HasStatement self.now.program import place result }
     {
-        self.program.statement(place, import)
+        self.parts.program.statement(place, import)
     }
 }

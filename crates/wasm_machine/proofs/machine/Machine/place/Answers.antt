@@ -10,13 +10,13 @@ pub returns-in-Some-clause-stands : goal.returns-in-Some-clause-stands
 returns-in-Some-clause-stands c =
     let m = c.self.inside in
     rw c.place_of.ensures (subst (λ (v : MachineForm). StandsAt v.program.whole (place_of c.in-Some.frame) (frame_at v.conf c.args.number)) c.self.view_is
-    (frame_stands m.program c.self.invariant.0.0 m.state.frames (shared m.state) c.args.number c.in-Some.frame (sym c.numbered.ensures ∙ c.in-Some.is)))
+    (frame_stands m.parts.program c.self.invariant.0.0 m.parts.state.frames (shared m.parts.state) c.args.number c.in-Some.frame (sym c.numbered.ensures ∙ c.in-Some.is)))
 
 pub returns-in-Some-clause-within : goal.returns-in-Some-clause-within
 returns-in-Some-clause-within c going =
     let m = c.self.inside in
     let still = c.self.invariant.1 (ap (λ (v : MachineForm). v.ended) c.self.view_is ∙ going) in
-    let here = frame_within m.program c.self.invariant.0.0 m.state.frames still c.args.number c.in-Some.frame (sym c.numbered.ensures ∙ c.in-Some.is) in
+    let here = frame_within m.parts.program c.self.invariant.0.0 m.parts.state.frames still c.args.number c.in-Some.frame (sym c.numbered.ensures ∙ c.in-Some.is) in
     subst (λ (p : Place). p.function ≤ length c.args.self.now.program.whole.funcs) (sym c.place_of.ensures)
     (subst (λ (v : MachineForm). c.in-Some.frame.function ≤ length v.program.whole.funcs) c.self.view_is here)
 
@@ -24,4 +24,4 @@ pub returns-in-None-clause-stands : goal.returns-in-None-clause-stands
 returns-in-None-clause-stands c =
     let m = c.self.inside in
     subst (λ (v : MachineForm). frame_at v.conf c.args.number ≡ None) c.self.view_is
-    (none_stands m.program c.self.invariant.0.0 m.state.frames (shared m.state) c.args.number (sym c.numbered.ensures ∙ c.in-None.is))
+    (none_stands m.parts.program c.self.invariant.0.0 m.parts.state.frames (shared m.parts.state) c.args.number (sym c.numbered.ensures ∙ c.in-None.is))

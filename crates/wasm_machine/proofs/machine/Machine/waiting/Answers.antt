@@ -5,5 +5,5 @@ use Rattle.wasm_machine.proofs.machine.Machine.waiting.Goals as goal
 
 pub returns : goal.returns
 returns c =
-    let fr = c.self.inside.state.frames in
-    c.waiting.ensures ∙ (sym (waiting_below c.self.inside.program.codes.items (take fr.current.base fr.words.items) fr.below.items) ∙ ap (λ (m : MachineForm). length m.conf.callers) c.self.view_is)
+    let fr = c.self.inside.parts.state.frames in
+    c.waiting.ensures ∙ (sym (waiting_below c.self.inside.parts.program.codes.items (take fr.current.base fr.words.items) fr.below.items) ∙ ap (λ (m : MachineForm). length m.conf.callers) c.self.view_is)
