@@ -25,7 +25,7 @@ ghost use Rattle.agreement.specs.Spots.Places.{final_program};
 
 /// A statement on numbers calls no import. Where a run of the module of a well-sorted program stands at one, and another statement follows it in its
 /// block, the run comes to that statement without a call of an import, unless a number is out of range, or a text of the command line stands beside one
-/// of the names.
+/// of the names. No name is a parameter at whose place a global lends its value.
 pub fn numbers_are_quiet()
     ensures { (p : Program) → IsSorted p → ModuleOk (module_of p)
         → (job : JobForm) (input : Source) (outside : Environment)
@@ -35,7 +35,7 @@ pub fn numbers_are_quiet()
 {}
 
 /// So is a statement whose names are unboxed in the function at work and take no copies, where the command line has assigned to none of them in this run. An
-/// unboxed parameter never has a text beside it.
+/// unboxed parameter never has a text beside it, but a global that lends at its place may; nothing lends at the place of a parameter here.
 pub fn lanes_are_quiet()
     ensures { (p : Program) → IsSorted p → ModuleOk (module_of p)
         → (job : JobForm) (input : Source) (outside : Environment)

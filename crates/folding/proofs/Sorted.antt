@@ -1,16 +1,16 @@
 -- Folded code is well sorted where the code was.
-use Rattle.std.proofs.Common.{◌≡◌, ℕ, ◌^◌, Bool, true, false, ◌&&◌, ◌||◌, nat_le, unsigned_abs, List, [], ◌∷◌, ◌++◌, map, Option, Some, None, refl, sym, ap, ◌∙◌, subst}
+use Rattle.std.proofs.Common.{◌≡◌, ℕ, zero, suc, ◌^◌, Bool, true, false, not, ◌&&◌, ◌||◌, nat_le, unsigned_abs, List, [], ◌∷◌, ◌++◌, map, Option, Some, None, is_some, refl, sym, ap, ◌∙◌, subst}
 use Rattle.std.proofs.lemmas.Bool.{and_parts, and_from}
 use Rattle.std.proofs.lemmas.Float.{T_from_true}
 use Rattle.sem_primitives.specs.Numbers.{Number as AnyNumber}
 use Rattle.sem_primitives.specs.declared.table.Primitive.TheVariants.{Pow}
 use Rattle.mid_program.specs.declared.mid.Operation.{Operation}
 use Rattle.mid_program.specs.declared.mid.Operation.TheVariants.{Host, Inline, AsNumber, FieldNumber}
-use Rattle.mid_program.specs.Mid.{Kind, Slot, Global, Parameter, Code, Do, Codes, End, At, Steps, Declared, Routine, Program, Form, PrimitiveAnswer, a_number, answer_by, form_of, source_of}
+use Rattle.mid_program.specs.Mid.{Kind, Boxed, Unboxed, ArrayKind, Slot, Global, Parameter, Code, Do, Codes, End, At, Fixed, Fresh, Steps, Declared, Routine, Program, Form, PrimitiveAnswer, a_number, answer_by, form_of, source_of, parameters_at}
 use Rattle.mid_program.specs.Alike.{erased}
-use Rattle.mid_program.specs.Sorted.{Context, takes, is_bare, is_mixed, Held, held_after, held_after_all, sorted, all_sorted, steps_sorted, context_of, routines_sorted, announced_names, all_differ, parts_sorted, is_sorted, IsSorted}
+use Rattle.mid_program.specs.Sorted.{Context, lender_at, lends, takes, is_bare, is_mixed, is_given, fit_call, Held, held_after, held_after_all, sorted, all_sorted, steps_sorted, context_of, routines_sorted, announced_names, all_differ, are_lenders, kinds_of, parts_sorted, is_sorted, IsSorted}
 use Rattle.mid_program.specs.Stores.{Store, Every, steps_stores}
-use Rattle.mid_program.proofs.Sorted.{Keeps, Stays, copy_of, from_T, number_alike, steps_rewritten, value_alike}
+use Rattle.mid_program.proofs.Sorted.{Keeps, Stays, copy_of, fit_copied, from_T, number_alike, steps_rewritten, value_alike}
 use Rattle.folding.specs.Folding.{constant, of_one, of_two, value_of, reduced_to, reduced, same, folded_steps, folded_routine, fold}
 use Rattle.folding.proofs.Constants.{constant_is}
 use Rattle.folding.proofs.Folds.{calls_kept}
@@ -63,10 +63,24 @@ copy_same None = refl
 copy_same (Some x) = refl
 
 taken_alike : (c : Context) (x : Slot) (o : Option Slot) (f g : Form) → erased f ≡ erased g → takes c x o f ≡ true → takes c x o g ≡ true
-taken_alike c (Global true i) o f g a h = ap (λ (b : Bool). b || (is_mixed c.mixed i && is_bare o)) (number_alike f g a) ∙ h
+taken_alike c (Global true i) o f g a h = ap (λ (b : Bool). not (lends c.lenders i) && (b || (is_mixed c.mixed i && is_bare o))) (number_alike f g a) ∙ h
 taken_alike c (Global false i) o f g a h = value_alike f g a ∙ h
-taken_alike c (Parameter true i) o f g a h = number_alike f g a ∙ h
+taken_alike c (Parameter true i) o f g a h = ap (λ (b : Bool). not (is_some (lender_at c.lenders i)) && b) (number_alike f g a) ∙ h
 taken_alike c (Parameter false i) o f g a h = value_alike f g a ∙ h
+
+given_same : (lender : ℕ → Option ℕ) (fs : List Form) (ks : List Kind) (es : Codes) → fit_copied same lender fs ks es ≡ fit_call lender fs ks es
+given_same lender fs [] End = refl
+given_same lender fs [] (At e es) = refl
+given_same lender fs [] (Fixed n es) = refl
+given_same lender fs [] (Fresh es) = refl
+given_same lender fs (k ∷ ks) End = refl
+given_same lender fs (k ∷ ks) (At e es) = λ i. is_given (lender zero) (copy_same (source_of e) i) (form_of fs e) k && given_same (λ j. lender (suc j)) fs ks es i
+given_same lender fs (Boxed ∷ ks) (Fixed n es) = refl
+given_same lender fs (Unboxed ∷ ks) (Fixed n es) = refl
+given_same lender fs (ArrayKind ∷ ks) (Fixed n es) = refl
+given_same lender fs (Boxed ∷ ks) (Fresh es) = refl
+given_same lender fs (Unboxed ∷ ks) (Fresh es) = refl
+given_same lender fs (ArrayKind ∷ ks) (Fresh es) = given_same (λ j. lender (suc j)) fs ks es
 
 abbrev Anything : Store → Type 0
 Anything s = Unit {0}
@@ -78,8 +92,9 @@ stays c = record {
   calls = refl;
   slot = λ x h. h;
   array = λ a h. h;
+  asks = λ h w. h;
   stored = λ x o f g a h w. ap (λ (p : Option Slot). takes c x p g) (copy_same o) ∙ taken_alike c x o f g a h;
-  given = λ f fs es h o. h;
+  given = λ f fs es h o. given_same (lender_at c.lenders) fs (parameters_at c.calls f) es ∙ h;
   does = λ fs o es h. sorted_by c fs o es (value_of o es) h;
 }
 
@@ -110,10 +125,11 @@ module _ (p : Program) where
 
   pub fold_sorted : IsSorted p → IsSorted (fold p)
   fold_sorted t =
-      let a = and_parts (all_differ (announced_names p)) (routines_sorted p p.routines && parts_sorted p (context_of p [])) (from_T (is_sorted p) t) in
-      let b = and_parts (routines_sorted p p.routines) (parts_sorted p (context_of p [])) a.1 in
+      let a = and_parts (all_differ (announced_names p)) _ (from_T (is_sorted p) t) in
+      let l = and_parts (are_lenders (kinds_of p.globals) p.lenders) _ a.1 in
+      let b = and_parts (routines_sorted p p.routines) (parts_sorted p (context_of p [])) l.1 in
       let m = and_parts (steps_sorted (context_of p []) false false p.begin) (steps_sorted (context_of p []) false false p.items && steps_sorted (context_of p []) false false p.end) b.1 in
       let n = and_parts (steps_sorted (context_of p []) false false p.items) (steps_sorted (context_of p []) false false p.end) m.1 in
       let announced : announced_names (fold p) ≡ announced_names p = ap (λ (ns : List (List ℕ)). map (λ (d : Declared). d.name) p.globals ++ ns) (names_same p.routines) in
-      T_from_true (is_sorted (fold p)) (and_from _ _ (ap all_differ announced ∙ a.0)
-      (and_from _ _ (bodies_kept p.routines b.0) (and_from _ _ (body_kept [] false p.begin m.0) (and_from _ _ (body_kept [] false p.items n.0) (body_kept [] false p.end n.1)))))
+      T_from_true (is_sorted (fold p)) (and_from _ _ (ap all_differ announced ∙ a.0) (and_from _ _ l.0
+      (and_from _ _ (bodies_kept p.routines b.0) (and_from _ _ (body_kept [] false p.begin m.0) (and_from _ _ (body_kept [] false p.items n.0) (body_kept [] false p.end n.1))))))

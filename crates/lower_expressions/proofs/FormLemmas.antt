@@ -7,7 +7,7 @@ use Rattle.wasm_types.specs.declared.instr.Simple.TheVariants.{LocalGet, LocalTe
 use Rattle.mid_program.specs.Mid as plain
 use Rattle.mid_program.specs.Mid.{Kind, Boxed, Unboxed, ArrayKind, Codes, End, At, Fixed, Fresh, form_of}
 use Rattle.mid_program.specs.Sorted.{count_of}
-use Rattle.lower_model.specs.Emission.{Layout, all_appended, all_boxed, all_converted, all_freed, all_given, all_given_pushed, one_given}
+use Rattle.lower_model.specs.Emission.{Layout, all_appended, all_boxed, all_converted, all_freed, all_given, all_given_pushed, lent, one_given}
 use Rattle.lower_model.specs.Places.{Bases, array_local, handle_local}
 use Rattle.lower_model.specs.Small.{ask, converted, emit, moved_out, to_value}
 use Rattle.host_imports.specs.declared.import.Import.TheVariants.{Arg, FreeArray}
@@ -66,15 +66,11 @@ forms_counted fs (Fresh es) q = absurd q
 
 -- what a call is given
 
-fresh_given : (b : Bases) (gs : List plain.Form) (kind : Kind) (ks : List Kind) (es : Codes) (t : ℕ) (k : Instructions) → given_with b gs (kind ∷ ks) (Fresh es) t k ≡ given_with b gs ks es t k
-fresh_given b [] kind ks es t k = refl
-fresh_given b (g ∷ gs) kind ks es t k = refl
+fresh_given : (y : Layout) (gs : List plain.Form) (kind : Kind) (ks : List Kind) (es : Codes) (t : ℕ) (k : Instructions) → given_with y gs (kind ∷ ks) (Fresh es) t k ≡ given_with y gs ks es t k
+fresh_given y [] kind ks es t k = refl
+fresh_given y (g ∷ gs) kind ks es t k = refl
 
-no_kinds : (b : Bases) (gs : List plain.Form) (t : ℕ) (k : Instructions) → given_with b gs [] End t k ≡ k
-no_kinds b [] t k = refl
-no_kinds b (g ∷ gs) t k = refl
-
-pub given_are : (y : Layout) (fs : List plain.Form) (ks : List Kind) (es : Codes) (t : ℕ) (k : Instructions) → IsGiven ks es → given_with y.bases (forms_in fs es) ks es t k ≡ all_given y fs ks es t k
+pub given_are : (y : Layout) (fs : List plain.Form) (ks : List Kind) (es : Codes) (t : ℕ) (k : Instructions) → IsGiven ks es → given_with y (forms_in fs es) ks es t k ≡ all_given y fs ks es t k
 given_are y fs [] End t k q = refl
 given_are y fs [] (At e es) t k q = absurd q
 given_are y fs [] (Fixed m es) t k q = absurd q
@@ -83,14 +79,14 @@ given_are y fs (Boxed ∷ ks) End t k q = absurd q
 given_are y fs (Unboxed ∷ ks) End t k q = absurd q
 given_are y fs (ArrayKind ∷ ks) End t k q = absurd q
 given_are y fs (Boxed ∷ ks) (At e es) t k q = ap (to_value y.bases (form_of fs e) t) (given_are y fs ks es (suc t) k q)
-given_are y fs (Unboxed ∷ ks) (At e es) t k q = given_are y fs ks es (suc t) k q
+given_are y fs (Unboxed ∷ ks) (At e es) t k q = ap (lent y (form_of fs e) t) (given_are y fs ks es (suc t) k q)
 given_are y fs (ArrayKind ∷ ks) (At e es) t k q = given_are y fs ks es (suc t) k q
 given_are y fs (Boxed ∷ ks) (Fixed m es) t k q = absurd q
 given_are y fs (Unboxed ∷ ks) (Fixed m es) t k q = absurd q
 given_are y fs (ArrayKind ∷ ks) (Fixed m es) t k q = absurd q
 given_are y fs (Boxed ∷ ks) (Fresh es) t k q = absurd q
 given_are y fs (Unboxed ∷ ks) (Fresh es) t k q = absurd q
-given_are y fs (ArrayKind ∷ ks) (Fresh es) t k q = fresh_given y.bases (forms_in fs es) ArrayKind ks es t k ∙ given_are y fs ks es t k q
+given_are y fs (ArrayKind ∷ ks) (Fresh es) t k q = fresh_given y (forms_in fs es) ArrayKind ks es t k ∙ given_are y fs ks es t k q
 
 pub pushed_are : (y : Layout) (ks : List Kind) (es : Codes) (t w : ℕ) (k : Instructions) → IsGiven ks es → pushed_with y ks es t w k ≡ all_given_pushed y ks es t w k
 pushed_are y [] End t w k q = refl

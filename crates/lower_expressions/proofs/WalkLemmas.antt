@@ -35,14 +35,14 @@ converted_end b (f ∷ fs) (argument.Place ∷ ws) t d k = refl
 pub none_converted : (b : Bases) (fs : List plain.Form) (ws : List Argument) (es : List Operand) (t d : ℕ) (k : Instructions) → length es ≡ 0 → k ≡ converted_with b fs ws (views es) t d k
 none_converted b fs ws es t d k e = converted_end b fs ws t d k ∙ ap (λ (x : Codes). converted_with b fs ws x t d k) (no_operands es e)
 
-given_end : (b : Bases) (fs : List plain.Form) (ks : List Kind) (t : ℕ) (k : Instructions) → k ≡ given_with b fs ks End t k
-given_end b [] [] t k = refl
-given_end b [] (x ∷ ks) t k = refl
-given_end b (f ∷ fs) [] t k = refl
-given_end b (f ∷ fs) (x ∷ ks) t k = refl
+given_end : (y : Layout) (fs : List plain.Form) (ks : List Kind) (t : ℕ) (k : Instructions) → k ≡ given_with y fs ks End t k
+given_end y [] [] t k = refl
+given_end y [] (x ∷ ks) t k = refl
+given_end y (f ∷ fs) [] t k = refl
+given_end y (f ∷ fs) (x ∷ ks) t k = refl
 
-pub none_given : (b : Bases) (fs : List plain.Form) (ks : List Kind) (es : List Operand) (t : ℕ) (k : Instructions) → length es ≡ 0 → k ≡ given_with b fs ks (views es) t k
-none_given b fs ks es t k e = given_end b fs ks t k ∙ ap (λ (x : Codes). given_with b fs ks x t k) (no_operands es e)
+pub none_given : (y : Layout) (fs : List plain.Form) (ks : List Kind) (es : List Operand) (t : ℕ) (k : Instructions) → length es ≡ 0 → k ≡ given_with y fs ks (views es) t k
+none_given y fs ks es t k e = given_end y fs ks t k ∙ ap (λ (x : Codes). given_with y fs ks x t k) (no_operands es e)
 
 pushed_end : (y : Layout) (ks : List Kind) (t w : ℕ) (k : Instructions) → k ≡ pushed_with y ks End t w k
 pushed_end y [] t w k = refl
@@ -77,12 +77,12 @@ no_items (x ∷ xs) e = absurd cc
 pub none_wanted : (b : Bases) (fs : List plain.Form) (ws : List Argument) (es : Codes) (t d : ℕ) (k : Instructions) → length ws ≡ 0 → k ≡ converted_with b fs ws es t d k
 none_wanted b fs ws es t d k e = unwanted b fs es t d k ∙ ap (λ (x : List Argument). converted_with b fs x es t d k) (no_items ws e)
 
-no_kind : (b : Bases) (fs : List plain.Form) (es : Codes) (t : ℕ) (k : Instructions) → k ≡ given_with b fs [] es t k
-no_kind b [] es t k = refl
-no_kind b (f ∷ fs) es t k = refl
+no_kind : (y : Layout) (fs : List plain.Form) (es : Codes) (t : ℕ) (k : Instructions) → k ≡ given_with y fs [] es t k
+no_kind y [] es t k = refl
+no_kind y (f ∷ fs) es t k = refl
 
-pub no_parameter : {A : Type 0} (view : A → Kind) (b : Bases) (fs : List plain.Form) (ks : List A) (es : Codes) (t : ℕ) (k : Instructions) → length ks ≡ 0 → k ≡ given_with b fs (map view ks) es t k
-no_parameter view b fs ks es t k e = no_kind b fs es t k ∙ ap (λ (x : List _). given_with b fs (map view x) es t k) (no_items ks e)
+pub no_parameter : {A : Type 0} (view : A → Kind) (y : Layout) (fs : List plain.Form) (ks : List A) (es : Codes) (t : ℕ) (k : Instructions) → length ks ≡ 0 → k ≡ given_with y fs (map view ks) es t k
+no_parameter view y fs ks es t k e = no_kind y fs es t k ∙ ap (λ (x : List _). given_with y fs (map view x) es t k) (no_items ks e)
 
 -- how many are left
 

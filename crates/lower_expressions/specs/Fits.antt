@@ -1,7 +1,8 @@
 -- Which code can be emitted: no place and no label is past its field.
-use Rattle.std.specs.Prelude.{ℕ, suc, ◌+◌, ◌≤◌, ◌<◌, if◌then◌else◌, is_some, List, [], ◌∷◌, length}
+use Rattle.std.specs.Prelude.{◌≡◌, ℕ, suc, ◌+◌, ◌≤◌, ◌<◌, if◌then◌else◌, is_some, Option, Some, List, [], ◌∷◌, length}
 use Rattle.sem_scripts.specs.Names.{ArrayName, Numbered, Given}
 use Rattle.mid_program.specs.Mid.{Kind, ArrayKind, Slot, Global, Parameter, Code, Do, Over, Compare, Call, Ask, AskLine, FileLine, Replace, Number, Text, Unset, Get, Set, Array, IsOpen, Choose, Seq, Let, Bound, Codes, End, At, Fixed, Fresh, parameters_at}
+use Rattle.mid_program.specs.Sorted.{lender_at}
 use Rattle.lower_pieces.specs.Bounds.{most_places, most_labels}
 use Rattle.lower_model.specs.Emission.{Layout, Immediate, FieldOf, TextOf, NumberOf, array_meant}
 use Rattle.lower_model.specs.Places.{made_in}
@@ -14,6 +15,10 @@ Within temporary arrays exit = (suc (suc temporary) ≤ most_places) × ((arrays
 abbrev pub SlotFits : Slot → Type 0
 SlotFits (Global bare name) = name ≤ most_places
 SlotFits (Parameter bare place) = place ≤ most_places
+
+-- the names that lend, by the places of parameters
+abbrev pub LendersFit : List (Option ℕ) → Type 0
+LendersFit lenders = (place name : ℕ) → lender_at lenders place ≡ Some name → name ≤ most_places
 
 abbrev pub ArrayFits : ArrayName → Type 0
 ArrayFits (Numbered number) = Unit {0}

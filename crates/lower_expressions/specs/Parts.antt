@@ -20,10 +20,10 @@ use Rattle.wasm_types.specs.declared.instr.Simple.TheVariants.{Br, Call as CallO
 use Rattle.mid_program.specs.Mid as plain
 use Rattle.mid_program.specs.declared.mid.Operation.{Operation}
 use Rattle.mid_program.specs.declared.mid.Operation.TheVariants.{Host}
-use Rattle.mid_program.specs.Mid.{Kind, Boxed, ArrayKind, Code, Codes, End, At, Fixed, Fresh, arguments, form_of, parameters_at}
+use Rattle.mid_program.specs.Mid.{Kind, Boxed, Unboxed, ArrayKind, Code, Codes, End, At, Fixed, Fresh, arguments, form_of, parameters_at}
 use Rattle.lower_model.specs.Places.{Bases, array_local, made_in, handle_local, number_local}
 use Rattle.lower_model.specs.Small.{ask, ask_row, emit, emit_if, kept, kept_code, answer_kept, moved_out, number_is, to_value, converted, when}
-use Rattle.lower_model.specs.Emission.{Layout, added, all_converted, all_emitted, all_pushed, emitted, name_read, text_kept, text_let_go, assigned, function_number, listed_asked, one_given, pending_assigned, performed}
+use Rattle.lower_model.specs.Emission.{Layout, added, all_converted, all_emitted, all_pushed, emitted, name_read, text_kept, text_let_go, assigned, function_number, lent, listed_asked, one_given, pending_assigned, performed}
 use Rattle.lower_model.specs.Quick.{Addition, addition_names, all_unsure}
 use Rattle.host_imports.specs.declared.import.Import.TheVariants.{Arg, FreeArray}
 
@@ -72,17 +72,18 @@ abbrev pub appended_with : Bases → List plain.Form → ℕ → Instructions �
 appended_with bases [] temporary after = after
 appended_with bases (form ∷ forms) temporary after = moved_out (handle_local bases temporary) (ask Arg (appended_with bases forms (suc temporary) after))
 
-abbrev pub given_one : Bases → Kind → plain.Form → ℕ → Instructions → Instructions
-given_one bases Boxed form temporary after = to_value bases form temporary after
-given_one bases kind form temporary after = after
+abbrev pub given_one : Layout → Kind → plain.Form → ℕ → Instructions → Instructions
+given_one layout Boxed form temporary after = to_value layout.bases form temporary after
+given_one layout Unboxed form temporary after = lent layout form temporary after
+given_one layout ArrayKind form temporary after = after
 
-abbrev pub given_with : Bases → List plain.Form → List Kind → Codes → ℕ → Instructions → Instructions
-given_with bases (form ∷ forms) (kind ∷ kinds) (At code operands) temporary after =
-    given_one bases kind form temporary (given_with bases forms kinds operands (suc temporary) after)
-given_with bases forms (kind ∷ kinds) (At code operands) temporary after = given_with bases forms kinds operands temporary after
-given_with bases forms (kind ∷ kinds) (Fixed number operands) temporary after = given_with bases forms kinds operands temporary after
-given_with bases forms (kind ∷ kinds) (Fresh operands) temporary after = given_with bases forms kinds operands temporary after
-given_with bases forms _ _ temporary after = after
+abbrev pub given_with : Layout → List plain.Form → List Kind → Codes → ℕ → Instructions → Instructions
+given_with layout (form ∷ forms) (kind ∷ kinds) (At code operands) temporary after =
+    given_one layout kind form temporary (given_with layout forms kinds operands (suc temporary) after)
+given_with layout forms (kind ∷ kinds) (At code operands) temporary after = given_with layout forms kinds operands temporary after
+given_with layout forms (kind ∷ kinds) (Fixed number operands) temporary after = given_with layout forms kinds operands temporary after
+given_with layout forms (kind ∷ kinds) (Fresh operands) temporary after = given_with layout forms kinds operands temporary after
+given_with layout forms _ _ temporary after = after
 
 abbrev pub pushed_with : Layout → List Kind → Codes → ℕ → ℕ → Instructions → Instructions
 pushed_with layout (kind ∷ kinds) (At code operands) temporary arrays after =
@@ -147,7 +148,7 @@ listed_with layout forms what temporary exit after =
 -- what a function is given, where its operands, of these forms, are evaluated
 abbrev pub passed_with : Layout → List plain.Form → List Kind → Codes → ℕ → ℕ → Instructions → Instructions
 passed_with layout forms kinds operands temporary arrays after =
-    given_with layout.bases forms kinds operands temporary (pushed_with layout kinds operands temporary arrays after)
+    given_with layout forms kinds operands temporary (pushed_with layout kinds operands temporary arrays after)
 
 -- a function is entered, and its answer kept
 abbrev pub entered : Bases → ℕ → ℕ → ℕ → Instructions → Instructions

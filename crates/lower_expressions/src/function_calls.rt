@@ -106,15 +106,7 @@ fn all_passed(
         (passed_with (view_layout layout.now) (map view_form forms.now)
         (map view_kind kinds.now) (views operands.now) temporary arrays) }
 {
-    all_given(
-        layout.alloc,
-        layout.bases,
-        out,
-        forms,
-        kinds,
-        operands,
-        temporary,
-    );
+    all_given(layout, out, forms, kinds, operands, temporary);
     all_pushed(layout, out, kinds, operands, temporary, arrays);
 }
 

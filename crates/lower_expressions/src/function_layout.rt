@@ -1,4 +1,5 @@
 //! What the code of a function is emitted for.
+ghost use Rattle.lower_expressions.specs.Fits.{LendersFit};
 
 use lower_layout::Layout;
 use lower_pieces::Bases;
@@ -10,4 +11,5 @@ pub struct FunctionLayout<'a> {
     pub alloc: Global,
     pub script: &'a Layout<'a>,
     pub bases: &'a Bases,
+    ghost lent: { LendersFit script.now.program.now.lenders.items },
 }

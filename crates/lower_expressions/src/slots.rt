@@ -1,8 +1,8 @@
 //! Scalars that are read and written.
-ghost use Rattle.std.specs.Prelude.{◌≡◌, ◌≤◌, true, false};
-ghost use Rattle.mid_program.specs.Mid.{NumberOrText, Global as GlobalSlot, slot_form};
+ghost use Rattle.std.specs.Prelude.{◌≡◌, ◌≤◌, true, false, Some};
+ghost use Rattle.mid_program.specs.Mid.{NumberOrText, Global as GlobalSlot, Parameter as ParameterSlot, slot_form};
 ghost use Rattle.mid_program.specs.ViewCode.{view_slot};
-ghost use Rattle.lower_model.specs.Emission.{handle_stored, slot_read, slot_set, text_dropped, text_stored, value_stored};
+ghost use Rattle.lower_model.specs.Emission.{handle_stored, parameter_read, slot_read, slot_set, text_dropped, text_stored, value_stored};
 ghost use Rattle.lower_model.specs.Small.{boxed_perhaps};
 ghost use Rattle.lower_pieces.specs.Bounds.{most_places};
 ghost use Rattle.lower_pieces.specs.Emits.{Emits, Reads};
@@ -14,8 +14,8 @@ use crate::function_layout::FunctionLayout;
 use crate::places::{global_handle, global_number};
 use host_imports::Import;
 use lower_pieces::{
-    Emitted, Form, MINUS_ONE, TEXT_BESIDE, boxed_number, boxed_perhaps, copied_by, emit, emit_all,
-    emit_if, import_call, moved_out, number_is, row_call, when, when_all,
+    Emitted, Form, LEAST, MINUS_ONE, TEXT_BESIDE, boxed_number, boxed_perhaps, copied_by, emit,
+    emit_all, emit_if, import_call, moved_out, number_is, row_call, when, when_all,
 };
 use mid_program::Slot;
 use sem_primitives::{Answer, Primitive, Sort};
@@ -57,6 +57,49 @@ fn bare_read(layout: &FunctionLayout<'_>, out: &mut Emitted, name: usize, tempor
     when_all(layout.alloc, out, &copy);
 }
 
+/// Reads an unboxed parameter; where it has nothing, the global that lends its value there.
+fn lent_read(
+    layout: &FunctionLayout<'_>,
+    out: &mut Emitted,
+    name: usize,
+    place: usize,
+    temporary: u32,
+)
+    requires name { name ≤ most_places }
+    requires place { place ≤ most_places }
+    requires places { temporary ≤ most_places }
+    ensures { Emits out.old out.new
+        (parameter_read (view_layout layout.now) (Some name) place temporary) }
+{
+    let all = [
+        Simple::LocalGet(place as u32),
+        Simple::LocalTee(layout.bases.number(temporary)),
+        Simple::I64Const(LEAST),
+        Simple::Compare(ValType::I64, IRelOp::Eq),
+    ];
+    emit_all(out, &all);
+    let mut global = Emitted::new(layout.alloc);
+    bare_read(layout, &mut global, name, temporary);
+    when(layout.alloc, out, global);
+}
+
+/// Reads an unboxed parameter.
+fn parameter_read(layout: &FunctionLayout<'_>, out: &mut Emitted, place: usize, temporary: u32)
+    requires place { place ≤ most_places }
+    requires places { temporary ≤ most_places }
+    ensures { Emits out.old out.new
+        (slot_read (view_layout layout.now) (ParameterSlot true place) temporary) }
+{
+    match layout.script.lender(place) {
+        Some(name) => lent_read(layout, out, name, place, temporary),
+        None => {
+            let get = Simple::LocalGet(place as u32);
+            let put = Simple::LocalSet(layout.bases.number(temporary));
+            emit_all(out, &[get, put]);
+        }
+    }
+}
+
 /// Reads a scalar.
 pub(crate) fn slot_read(layout: &FunctionLayout<'_>, out: &mut Emitted, slot: Slot, temporary: u32)
     requires slot { SlotFits (view_slot slot) }
@@ -76,13 +119,7 @@ pub(crate) fn slot_read(layout: &FunctionLayout<'_>, out: &mut Emitted, slot: Sl
             let (get, set) = (Simple::LocalGet(local), Simple::LocalSet(local));
             copied_by(out, get, set, layout.bases.handle(temporary));
         }
-        Slot::Parameter(true, place) => {
-            let get = Simple::LocalGet(place as u32);
-            emit_all(
-                out,
-                &[get, Simple::LocalSet(layout.bases.number(temporary))],
-            );
-        }
+        Slot::Parameter(true, place) => parameter_read(layout, out, place, temporary),
     }
 }
 

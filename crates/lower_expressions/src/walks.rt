@@ -3,18 +3,25 @@ ghost use Rattle.std.specs.Prelude.{[], ◌∷◌, ◌++◌, ◌≡◌, ◌+◌,
 ghost use Rattle.mid_program.specs.Sorted.{count_of};
 ghost use Rattle.mid_program.specs.View.{view_kind};
 ghost use Rattle.mid_program.specs.ViewCode.{views};
+ghost use Rattle.lower_model.specs.Emission.{lent};
 ghost use Rattle.lower_model.specs.Places.{made_in};
 ghost use Rattle.lower_pieces.specs.Bounds.{most_labels, most_places};
 ghost use Rattle.lower_pieces.specs.Emits.{Emits};
 ghost use Rattle.lower_pieces.specs.Forms.{view_form};
 ghost use Rattle.lower_expressions.specs.CodeAt.{Unrefused};
 ghost use Rattle.lower_expressions.specs.Parts.{appended_with, boxed_with, converted_with, freed_with, given_one, given_with};
+ghost use Rattle.lower_expressions.specs.View.{view_layout};
 
+use crate::function_layout::FunctionLayout;
 use host_imports::Import;
-use lower_pieces::{Bases, Emitted, Form, ask, converted, moved_out, to_value};
+use lower_pieces::{
+    Bases, Emitted, Form, LEAST, MINUS_ONE, TEXT_BESIDE, ask, converted, import_call, moved_out,
+    number_is, to_value, when_all,
+};
 use mid_program::{Kind, Operand};
 use sem_primitives::Argument;
 use std::alloc::Global;
+use wasm_types::Simple;
 
 /// Notes the form of an operand. Where memory runs out for it nothing more is emitted.
 pub(crate) fn noted(out: &mut Emitted, forms: &mut Vec<Form>, form: Form)
@@ -107,29 +114,47 @@ pub(crate) fn all_appended(bases: &Bases, out: &mut Emitted, forms: &[Form], tem
     }
 }
 
-/// Makes a value of what a boxed parameter is given.
-pub(crate) fn given_one(
-    alloc: Global,
-    bases: &Bases,
-    out: &mut Emitted,
-    kind: Kind,
-    form: Form,
-    temporary: u32,
-)
+/// Of what lends its value an unboxed parameter is given the number, or nothing in place of a text.
+fn lent(layout: &FunctionLayout<'_>, out: &mut Emitted, form: Form, temporary: u32)
     requires { temporary ≤ most_places }
     ensures { Emits out.old out.new
-        (given_one bases.now (view_kind kind) (view_form form) temporary) }
+        (lent (view_layout layout.now) (view_form form) temporary) }
 {
-    match kind {
-        Kind::Boxed => to_value(alloc, bases, out, form, temporary),
-        Kind::Unboxed | Kind::Array => {}
+    match form {
+        Form::NumberOrText => {
+            let number = layout.bases.number(temporary);
+            number_is(out, number, TEXT_BESIDE);
+            let copy = layout.bases.handle(temporary);
+            let dropped = [
+                Simple::LocalGet(copy),
+                Simple::I32Const(MINUS_ONE),
+                Simple::LocalSet(copy),
+                import_call(Import::Drop),
+                Simple::I64Const(LEAST),
+                Simple::LocalSet(number),
+            ];
+            when_all(layout.alloc, out, &dropped);
+        }
+        Form::PrimitiveAnswer(_) | Form::OptionalNumber => {}
     }
 }
 
-/// Makes values of what boxed parameters are given.
+/// Makes of a temporary what its parameter is given.
+fn given_one(layout: &FunctionLayout<'_>, out: &mut Emitted, kind: Kind, form: Form, temporary: u32)
+    requires { temporary ≤ most_places }
+    ensures { Emits out.old out.new
+        (given_one (view_layout layout.now) (view_kind kind) (view_form form) temporary) }
+{
+    match kind {
+        Kind::Boxed => to_value(layout.alloc, layout.bases, out, form, temporary),
+        Kind::Unboxed => lent(layout, out, form, temporary),
+        Kind::Array => {}
+    }
+}
+
+/// Makes of temporaries what their parameters are given.
 pub(crate) fn all_given(
-    alloc: Global,
-    bases: &Bases,
+    layout: &FunctionLayout<'_>,
     out: &mut Emitted,
     forms: &[Form],
     kinds: &[Kind],
@@ -137,7 +162,7 @@ pub(crate) fn all_given(
     temporary: u32,
 )
     requires { temporary + count_of (views operands.now) ≤ most_places }
-    ensures { Emits out.old out.new (given_with bases.now
+    ensures { Emits out.old out.new (given_with (view_layout layout.now)
         (map view_form forms.now) (map view_kind kinds.now) (views operands.now) temporary) }
 {
     let Some((operand, operands)) = operands.split_first() else {
@@ -148,10 +173,10 @@ pub(crate) fn all_given(
     };
     match (operand, forms.split_first()) {
         (Operand::Code(_), Some((form, forms))) => {
-            given_one(alloc, bases, out, *kind, *form, temporary);
-            all_given(alloc, bases, out, forms, kinds, operands, temporary + 1);
+            given_one(layout, out, *kind, *form, temporary);
+            all_given(layout, out, forms, kinds, operands, temporary + 1);
         }
-        _ => all_given(alloc, bases, out, forms, kinds, operands, temporary),
+        _ => all_given(layout, out, forms, kinds, operands, temporary),
     }
 }
 

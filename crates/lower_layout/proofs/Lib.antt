@@ -1,3 +1,4 @@
 mod ArrayLemmas
+mod LenderLemmas
 pub mod Refusals
 mod SpanLemmas

@@ -1,6 +1,6 @@
 //! Where the things of a script stand.
 ghost use Rattle.std.specs.Prelude.{[], ◌≡◌, ◌<◌, ◌≤◌, get_or, length, map};
-ghost use Rattle.mid_program.specs.Sorted.{kinds_of};
+ghost use Rattle.mid_program.specs.Sorted.{kinds_of, lender_at};
 ghost use Rattle.mid_program.specs.View.{view_declared, view_mid};
 ghost use Rattle.lower_model.specs.Functions.{texts_of};
 ghost use Rattle.lower_model.specs.Places.{array_name, place_of};
@@ -56,6 +56,16 @@ impl<'a> Layout<'a> {
         ensures { result.now ≡ self.now.program.now.routines.items }
     {
         &self.program.routines
+    }
+
+    /// The global that lends its value at a place of parameters, if one does.
+    pub fn lender(&self, place: usize) -> Option<usize>
+        ensures { result ≡ lender_at self.now.program.now.lenders.items place }
+    {
+        match self.program.lenders.get(place) {
+            Some(lender) => *lender,
+            None => None,
+        }
     }
 
     /// How many ranges there are.

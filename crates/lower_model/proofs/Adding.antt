@@ -33,7 +33,7 @@ use Rattle.lower_model.proofs.Simulation.{work_of, works_of, extra_of, operator_
 use Rattle.lower_model.proofs.Expressions.{put_done}
 use Rattle.lower_model.proofs.Inlining.{two_wanted, plainly_calculated}
 use Rattle.lower_model.proofs.QuickNames.{num_of, source_steps, all_flag, all_steps, AllSure, source_code, none_is, all_sure, source_among, source_beside, source_is, two_few, one_few, both_near, result_of}
-use Rattle.lower_model.proofs.QuickParts.{two_calculated, AllUnboxed, all_unsure_ok, calculated_means}
+use Rattle.lower_model.proofs.QuickParts.{two_calculated, AllUnboxed, all_unsure_ok, calculated_means, words, all_words}
 use Rattle.lower_model.proofs.QuickSteps.{SourceFits, source_unboxed, operand, near_fits, both_added}
 
 module _ (p : Program) (deepest : Observer) (ks : List Kind) (F : List Frame) (b : Bases) (M n : ℕ) where
@@ -133,10 +133,10 @@ module _ (p : Program) (deepest : Observer) (ks : List Kind) (F : List Frame) (b
           (blocked p deepest ks F b M (41 + (works_of es + extra_of es)) σ.turns d k K _ (Done p deepest ks F b M n v (Do (Inline o) es) fs env ts st t u w NoMore K1 l σ) P outcome (λ x τ c h. done_closes v (Do (Inline o) es) fs env ts st t u w k K l σ x τ c h)
           (plainly_calculated p deepest ks F b M n o es ok v fs env ts st t u w (suc d) NoMore K1 l σ so us rm ar rd))
 
-      sums : (q : Addition) → AdditionIs fs o es q → AllSure σ (pos (2 ^ 52)) (2 ^ 53) (addition_names q) → Reached p deepest ks F b M 5 σ.turns (at ks [] K1 (laid b l) F (fast q) S) P Q outcome
+      sums : (q : Addition) → AdditionIs fs o es q → AllSure (words l σ) σ (pos (2 ^ 52)) (2 ^ 53) (addition_names q) → Reached p deepest ks F b M 5 σ.turns (at ks [] K1 (laid b l) F (fast q) S) P Q outcome
       sums q a sure =
-          let o1 = operand p deepest ks F b M n q.left (addition_names q) (2 ^ 52) (2 ^ 53) σ (omega arith) a.left (omega arith) (source_among q.left (and_source q.right [])) sure in
-          let o2 = operand p deepest ks F b M n q.right (addition_names q) (2 ^ 52) (2 ^ 53) σ (omega arith) a.right (omega arith) (source_beside q.right q.left (and_source q.right []) (source_among q.right [])) sure in
+          let o1 = operand p deepest ks F b M n (words l σ) q.left (addition_names q) (2 ^ 52) (2 ^ 53) σ (omega arith) a.left (omega arith) (source_among q.left (and_source q.right [])) sure in
+          let o2 = operand p deepest ks F b M n (words l σ) q.right (addition_names q) (2 ^ 52) (2 ^ 53) σ (omega arith) a.right (omega arith) (source_beside q.right q.left (and_source q.right []) (source_among q.right [])) sure in
           let r = result_of q.op o1.number o2.number a.sum o1.few o2.few in
           let y = r.number in
           let f1 = one_few q.left in
@@ -149,10 +149,10 @@ module _ (p : Program) (deepest : Observer) (ks : List Kind) (F : List Frame) (b
           (put_done p deepest ks F b M n (Do (Inline o) es) v fs env ts st t u w k K l l σ σ y _ rd.below (same_self ts t w l) (λ i h. refl) (a.keeps ts st l env rd.kept) refl tt
           (put_word p deepest ks F b M t u w (number_word y) a_number k K l y σ (refl, refl) rd.fit)))
 
-      chosen : (q : Addition) → AdditionIs fs o es q → (f : Bool) → all_flag σ (pos (2 ^ 52)) (2 ^ 53) (addition_names q) ≡ f →
+      chosen : (q : Addition) → AdditionIs fs o es q → (f : Bool) → all_flag (words l σ) (pos (2 ^ 52)) (2 ^ 53) (addition_names q) ≡ f →
           Reached p deepest ks F b M (42 + (works_of es + extra_of es)) σ.turns (at ks [] K1 (laid b l) F (cond (nat_eq (if f then 1 else 0) 0) (fast q) slow) S) P Q outcome
       chosen q a true eq = anyway
-      chosen q a false eq = within (machine p deepest ks F) M 5 (42 + (works_of es + extra_of es)) σ.turns _ P Q outcome (omega arith) (sums q a (all_sure (addition_names q) (pos (2 ^ 52)) (2 ^ 53) σ (omega arith) (omega arith) eq))
+      chosen q a false eq = within (machine p deepest ks F) M 5 (42 + (works_of es + extra_of es)) σ.turns _ P Q outcome (omega arith) (sums q a (all_sure (words l σ) (addition_names q) (pos (2 ^ 52)) (2 ^ 53) σ (all_words p deepest ks F b M n (addition_names q) t u w l σ (addition_unboxed fs o es q a) rd.fit) (omega arith) (omega arith) eq))
 
       by : (r : Option Addition) → addition_in (Inline o) es ≡ r → Reached p deepest ks F b M (work_of (Do (Inline o) es)) σ.turns (at ks [] K (laid b l) F (added_or (layout p deepest ks F b M n) r t slow k (plain d k)) S) P Q outcome
       by None eq =
@@ -162,7 +162,7 @@ module _ (p : Program) (deepest : Observer) (ks : List Kind) (F : List Frame) (b
           let a = addition_is fs o es q eq so in
           let few = two_few q.left q.right in
           let unboxed = addition_unboxed fs o es q a in
-          let f = all_flag σ (pos (2 ^ 52)) (2 ^ 53) (addition_names q) in
+          let f = all_flag (words l σ) (pos (2 ^ 52)) (2 ^ 53) (addition_names q) in
           first (machine p deepest ks F) M (all_steps (addition_names q) + 1) (42 + (works_of es + extra_of es)) (work_of (Do (Inline o) es)) σ.turns _ _ P Q outcome
           (then_goes (all_unsure_ok p deepest ks F b M n _ _ (addition_names q) (pos (2 ^ 52)) (2 ^ 53) t u w l σ unboxed rd.parameters rd.fit) (chooses slow (fast q) (if f then 1 else 0))) (omega (arith, few))
           (chosen q a f refl)

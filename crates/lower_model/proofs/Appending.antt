@@ -52,6 +52,7 @@ use Rattle.lower_model.proofs.StatementForms.{flows_on, plain_meant, Starts, rea
 use Rattle.lower_model.proofs.Still.{with_state, FaultAlone, EndsStill, code_still}
 use Rattle.lower_model.proofs.Worn.{text_given, away_less, away_lost}
 use Rattle.lower_model.proofs.Written.{fit_global}
+use Rattle.mid_program.proofs.Lenders.{boxed_lends}
 
 -- What such code means.
 
@@ -182,7 +183,7 @@ module _ (p : Program) (deepest : Observer) (ks : List Kind) (F : List Frame) (b
         (record {
           next = l2;
           comes = ap (λ τ. at ks [] K (laid b l2) F k (beside_state p deepest ks F τ)) (global_again i z v σ);
-          fit = subst (Fit p deepest ks F 0 u 0 l2) (global_again i z v σ) (fit_global p deepest ks F b M n i z 0 u 0 l2 (with_global i v σ) f2);
+          fit = subst (Fit p deepest ks F 0 u 0 l2) (global_again i z v σ) (fit_global p deepest ks F b M n i z 0 u 0 l2 (with_global i v σ) (boxed_lends kinds p.lenders i ft.sound.lend hk) f2);
           iterators = λ x. refl;
         })
     put_back (Err x) v u d k K l σ ft =

@@ -1,5 +1,5 @@
 -- Records of the main input are asked for: assignments of the command line come first, each for a turn, in a loop.
-use Rattle.std.proofs.Common.{◌≡◌, inl, inr, ℕ, zero, suc, ◌+◌, ◌*◌, ◌-◌, ◌^◌, ◌<◌, ◌≤◌, Bool, true, false, List, [], ◌∷◌, length, Some, None, Result, Ok, Err, refl, sym, ap, ◌∙◌, subst, true≢false, arith}
+use Rattle.std.proofs.Common.{◌≡◌, inl, inr, ℕ, zero, suc, ◌+◌, ◌*◌, ◌-◌, ◌^◌, ◌<◌, ◌≤◌, Bool, true, false, List, [], ◌∷◌, length, Some, None, Result, Ok, Err, refl, sym, ap, ◌∙◌, subst, true≢false, arith, Option}
 use Rattle.std.specs.Prelude.{nat_eq, not, is_some}
 use Rattle.std.specs.Int.{w32, w64, cast_signed, cast_unsigned}
 use Rattle.awk_values.specs.declared.fault.Fault.{Fault}
@@ -19,8 +19,8 @@ use Rattle.wasm_store.specs.Words.{flag}
 use Rattle.wasm_store.specs.declared.word.Word.TheVariants.{I32, I64}
 use Rattle.sem_scripts.specs.Meaning.{asked, unless_pending, assign_pending}
 use Rattle.mid_program.specs.Mid.{Kind, Program, PrimitiveAnswer}
-use Rattle.sem_scripts.specs.ScriptState.{State, Stop, OutOfTurns, Gives, Execution, ◌>>◌, go_on, give, stop, spend, settled}
-use Rattle.mid_program.specs.Sorted.{kinds_of}
+use Rattle.sem_scripts.specs.ScriptState.{State, Stop, OutOfTurns, Gives, Execution, ◌>>◌, go_on, give, stop, spend, settled, with_global}
+use Rattle.mid_program.specs.Sorted.{kinds_of, has_kind, lender_at}
 use Rattle.lower_model.specs.Cells.{Bits, Held, is_owned}
 use Rattle.lower_model.specs.Emission.{pending_assigned}
 use Rattle.host_imports.specs.Codes.{input_code}
@@ -42,8 +42,9 @@ use Rattle.lower_model.proofs.HostLaws.{Few, Keeps}
 use Rattle.lower_model.proofs.InputLaws.{IsPending, GoodInput, LineAt, LineThere, getline_row_good, getline_line_row_good, line_there}
 use Rattle.lower_model.proofs.Spending.{Asks, state_after, conf_after, asking, spends_ok}
 use Rattle.lower_model.proofs.Pending.{made_locals, made_state, pending_meant, pending_made}
-use Rattle.lower_model.proofs.Written.{fit_global}
+use Rattle.lower_model.proofs.Written.{fit_global_by}
 use Rattle.lower_model.proofs.Simulation.{layout}
+use Rattle.lower_model.proofs.State.{LentStays}
 
 -- a code of the input fits 64 bits, and is none of a fault
 pub codes_fit : (x : InputAnswer) → (cast_unsigned w64 (cast_signed w32 (input_code x)) ≡ input_code x) × (nat_eq (input_code x) (2 ^ 64 - 1) ≡ false)
@@ -103,10 +104,20 @@ module _ (p : Program) (deepest : Observer) (ks : List Kind) (F : List Frame) (b
   same_steps : {i j : ℕ} {c c1 : Conf} → i ≡ j → Goes (machine p deepest ks F) i c c1 → Goes (machine p deepest ks F) j c c1
   same_steps {c = c} {c1 = c1} q g = subst (λ z. Goes (machine p deepest ks F) z c c1) q g
 
-  pub pends_ok : {B : Type 0} → (code : Instructions → Instructions) (rest : Execution B) (m : ℕ) → assign_work ≤ M → (t u w d : ℕ) (k : Instructions) (K : List Label) (l : Locals) (σ : State) (P : B → State → Conf → Type 0) (Q : Stop → State → Conf → Type 0) → suc t < b.temporaries → Fit p deepest ks F t u w l σ → (τ : State) → IsPending τ.shared.inner → τ.shared.inner.names ≡ σ.shared.inner.names → (Few σ.shared.inner → Few τ.shared.inner) → τ ≡ record σ { turns = τ.turns; shared = τ.shared } → τ.turns ≤ suc m →
+  -- no parameter is at a place where something lends
+  abbrev pub NoneLent : Type 0
+  NoneLent = (i : ℕ) (k : Kind) → has_kind ks i k ≡ true → lender_at p.lenders i ≡ None
+
+  none_changed : NoneLent → (σ σ1 : State) (i : ℕ) (k : Kind) → has_kind ks i k ≡ true → LentStays (lender_at p.lenders i) σ σ1
+  none_changed none σ σ1 i k h g e = absurd (apart (sym (none i k h) ∙ e))
+    where
+      apart : {j : ℕ} → ◌≡◌ {A = Option ℕ} None (Some j) → ⊥
+      apart q = cc
+
+  pub pends_ok : {B : Type 0} → (code : Instructions → Instructions) (rest : Execution B) (m : ℕ) → assign_work ≤ M → NoneLent → (t u w d : ℕ) (k : Instructions) (K : List Label) (l : Locals) (σ : State) (P : B → State → Conf → Type 0) (Q : Stop → State → Conf → Type 0) → suc t < b.temporaries → Fit p deepest ks F t u w l σ → (τ : State) → IsPending τ.shared.inner → τ.shared.inner.names ≡ σ.shared.inner.names → (Few σ.shared.inner → Few τ.shared.inner) → τ ≡ record σ { turns = τ.turns; shared = τ.shared } → τ.turns ≤ suc m →
       ((l2 : Locals) (σ2 : State) → Fit p deepest ks F t u w l2 σ2 → σ2.turns ≤ m → Same [] t w l l2 → SameOwn p deepest ks F σ σ2 → Reached p deepest ks F b M 10 σ2.turns (at ks [] (loop_at code t d k ∷ K) (laid b l2) F (code (behind_call t d)) (beside_state p deepest ks F σ2)) P Q (rest σ2)) →
       Reached p deepest ks F b M 9 τ.turns (at ks (Bits (I32 2) ∷ []) (loop_at code t d k ∷ K) (laid b l) F (behind_call t d) (beside_state p deepest ks F (record σ { turns = τ.turns; shared = τ.shared }))) P Q ((spend >> (assign_pending >> rest)) (record σ { turns = τ.turns; shared = τ.shared }))
-  pends_ok code rest m enough t u w d k K l σ P Q lt ft τ1 ip nm fw eτ tm next =
+  pends_ok code rest m enough none t u w d k K l σ P Q lt ft τ1 ip nm fw eτ tm next =
       let mach = machine p deepest ks F in
       let τ = record σ { turns = τ1.turns; shared = τ1.shared } in
       let c2 = Bits (I64 2) in
@@ -138,7 +149,7 @@ module _ (p : Program) (deepest : Observer) (ks : List Kind) (F : List Frame) (b
       let f5 = fit_hand p deepest ks F t (suc t) u w l3 σ1 value (inr (StrNum ip.text, refl)) (omega arith) f4 in
       let f6 = fit_hand p deepest ks F t (suc t) u w l4 σ1 empty (inl refl) (omega arith) f5 in
       let f7 = fit_less p deepest ks F t u w l2 σ1 (upd_same l4.hand t empty) f6 in
-      let f8 = fit_global p deepest ks F b M n ip.number (StrNum ip.text) t u w l2 σ1 f7 in
+      let f8 = fit_global_by p deepest ks F b M n ip.number (StrNum ip.text) t u w l2 σ1 (none_changed none σ1 (with_global ip.number (StrNum ip.text) σ1)) f7 in
       let same = same_then [] t t w w l l1 l2 (omega arith) (omega arith) (same_number [] t w t l c2 (omega arith))
       (same_then [] t t w w l1 l3 l2 (omega arith) (omega arith) (same_number [] t w t l1 number (omega arith))
       (same_then [] t t w w l3 l4 l2 (omega arith) (omega arith) (same_hand [] t w t l3 value (omega arith)) (same_hand [] t w t l4 empty (omega arith)))) in
@@ -233,21 +244,21 @@ module _ (p : Program) (deepest : Observer) (ks : List Kind) (F : List Frame) (b
   passes A input.Failed e = refl
   passes A input.Pending e = absurd (true≢false e)
 
-  pub asked_ok : (a : Inputs) → assign_work ≤ M → (m : ℕ) → AskedFrom a m
+  pub asked_ok : (a : Inputs) → assign_work ≤ M → NoneLent → (m : ℕ) → AskedFrom a m
   unfolding asked
-  asked_ok a enough zero t u w d k K l σ lt ft tm =
+  asked_ok a enough none zero t u w d k K l σ lt ft tm =
       once_ok a t u w d k K l σ (omega (arith, lt)) ft (unless_pending (stop OutOfTurns) give) (passes (stop OutOfTurns))
       (λ m j le nm fw ip. record { steps = 0; few = omega arith; enough = omega (arith, le, tm); shows = refl })
-  asked_ok a enough (suc m) t u w d k K l σ lt ft tm =
+  asked_ok a enough none (suc m) t u w d k K l σ lt ft tm =
       let again = asked m (asking p deepest ks F M answer.Input a.asks) in
       once_ok a t u w d k K l σ (omega (arith, lt)) ft (unless_pending (spend >> (assign_pending >> again)) give) (passes (spend >> (assign_pending >> again)))
       (λ m1 j le nm fw ip.
-      pends_ok a.asks.code again m enough t u w d k K l σ (Asked a.reads t u w k K l σ) (Away p deepest ks F b d K) lt ft (state_after p deepest ks F M answer.Input σ m1 (Ok (j, input.Pending))) ip nm fw refl (omega (arith, le, tm))
+      pends_ok a.asks.code again m enough none t u w d k K l σ (Asked a.reads t u w k K l σ) (Away p deepest ks F b d K) lt ft (state_after p deepest ks F M answer.Input σ m1 (Ok (j, input.Pending))) ip nm fw refl (omega (arith, le, tm))
       (λ l2 σ2 f2 t2 same own.
       weaker (machine p deepest ks F) M 10 σ2.turns _ (Asked a.reads t u w k K l2 σ2) (Asked a.reads t u w k K l σ) (Away p deepest ks F b d K) (Away p deepest ks F b d K) (again σ2)
       (λ x τ2 c4 g. record { next = g.next; comes = g.comes; fit = g.fit; same = same_then [] t t w w l l2 g.next (omega arith) (omega arith) same g.same; own = λ i q. g.own i q ∙ own i q; holds = g.holds; line = g.line })
       (λ why τ2 c4 g. g)
-      (asked_ok a enough m t u w d k K l2 σ2 lt f2 t2)))
+      (asked_ok a enough none m t u w d k K l2 σ2 lt f2 t2)))
 
   -- The two that ask.
 

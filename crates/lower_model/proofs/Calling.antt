@@ -1,6 +1,6 @@
 -- Calls of functions: what is given stands in temporaries, is pushed, and the call does what it means; then the arrays that were made for it are freed.
 -- That each call does what it means is a premise here (`CallsDo`).
-use Rattle.std.proofs.Common.{◌≡◌, ◌⊎◌, inl, inr, ℕ, zero, suc, ◌+◌, ◌*◌, ◌<◌, ◌≤◌, true, List, [], ◌∷◌, ◌++◌, length, Some, None, refl, sym, ap, ◌∙◌, subst, true≢false, arith}
+use Rattle.std.proofs.Common.{◌≡◌, ◌⊎◌, inl, inr, ℕ, zero, suc, ◌+◌, ◌*◌, ◌<◌, ◌≤◌, true, List, [], ◌∷◌, ◌++◌, length, Option, Some, None, refl, sym, ap, ◌∙◌, subst, true≢false, arith}
 use Rattle.std.specs.Prelude.{reverse, ◌&&◌, nat_lt, get_or}
 use Rattle.std.proofs.lemmas.Bool.{and_parts, cases_eq, ltb-true, or_left, or_right}
 use Rattle.std.proofs.lemmas.List.{length-map}
@@ -11,11 +11,11 @@ use Rattle.sem_primitives.specs.declared.sorts.Sort.TheVariants as sort
 use Rattle.wasm_types.specs.Syntax.{Instructions}
 use Rattle.wasm_types.specs.declared.instr.Simple.TheVariants.{Call as CallOf}
 use Rattle.wasm_store.specs.declared.word.Word.TheVariants.{I64}
-use Rattle.mid_program.specs.Mid.{Kind, Boxed, Unboxed, ArrayKind, Program, Routine, Form, PrimitiveAnswer, NumberOrText, OptionalNumber, a_value, Code, Call, Codes, End, At, Fixed, Fresh, form_of, parameters_at}
+use Rattle.mid_program.specs.Mid.{Kind, Boxed, Unboxed, ArrayKind, Program, Routine, Form, PrimitiveAnswer, NumberOrText, OptionalNumber, a_value, Code, Call, Codes, End, At, Fixed, Fresh, form_of, source_of, parameters_at}
 use Rattle.mid_program.specs.MidMeaning.{Holds, Values, evaluated, all_evaluated, boxed, array_in, locals_of}
 use Rattle.sem_scripts.specs.Names.{ArrayName}
 use Rattle.sem_scripts.specs.ScriptState.{State, Stop, Faulted, OutOfTurns, TooDeep, Nexted, Exited, Returned, Outcome, Gives, Stops, CallFrame, Local, Scalar, value_in_local, array_in_local, go_on, spent}
-use Rattle.mid_program.specs.Sorted.{sorted, all_sorted, held_after_all, fits, is_given, fit_call, is_array_place, context_of, calls_of, kinds_of}
+use Rattle.mid_program.specs.Sorted.{sorted, all_sorted, held_after_all, lender_at, fits, is_given, fit_call, is_array_place, context_of, calls_of, kinds_of}
 use Rattle.lower_model.specs.Cells.{Cell, Bits, Held, OwnedArray, LentArray, Gone, is_owned, has_owner}
 use Rattle.lower_model.specs.Emission.{array_meant, emitted, all_emitted, all_given, all_given_pushed, all_freed, function_number}
 use Rattle.lower_model.specs.Machine.{Conf, Deep, Label, Frame, Store, array_kinds, at, br, owner_waits, loops_walked, makes_few, waits}
@@ -23,47 +23,38 @@ use Rattle.lower_model.specs.Noted.{noted_called}
 use Rattle.lower_model.specs.Places.{Bases, made_in, arrays_among as arrays_in_codes}
 use Rattle.lower_model.specs.Small.{emit, answer_kept}
 use Rattle.lower_model.proofs.Observer.{Observer}
-use Rattle.lower_model.proofs.Runs.{Goes, then_goes, goes_to, goes_from, stays, Arrives, Onward, reaches_on, first, then_on, then_step, within}
+use Rattle.lower_model.proofs.Runs.{Goes, then_goes, goes_to, goes_from, stays, Arrives, knowing, Onward, reaches_on, first, then_on, then_step, within}
 use Rattle.lower_model.proofs.Regions.{upd_same, upd_other}
 use Rattle.lower_model.proofs.Locals.{Locals, Hand, Number as NumberAt, Array as Yard, local_of, with_at, has_with, laid, laid_at, laid_twice, laid_again}
 use Rattle.lower_model.proofs.Steps.{empty, unanswered, get_moved, get_copied, tee_ok, moved_out_ok}
-use Rattle.lower_model.proofs.State.{bare, beside, bare_number, beside_number, AnswerIs, answering, StoreLeft}
-use Rattle.lower_model.proofs.Relation.{HoldsAt, Meant, IsArray, ParamIs, array_at, kept_same, same_then, Sound, StopSound, StopLeaves, left_to, Fit, fit_loose, fit_hand, fit_number, fit_array, fit_less, WasLeft, Away, holds_same}
+use Rattle.lower_model.proofs.State.{BareParameter, AnswerIs, answering, StoreLeft}
+use Rattle.lower_model.proofs.Relation.{HoldsAt, Meant, IsArray, ParamIs, array_at, kept_same, same_then, Sound, SameLent, StopSound, StopLeaves, left_to, Fit, fit_state, fit_loose, fit_hand, fit_number, fit_array, fit_less, WasLeft, Away, holds_same}
 use Rattle.lower_model.proofs.Pieces.{free_array_ok, answer_failed}
 use Rattle.lower_model.proofs.Answers.{machine, beside_state}
 use Rattle.lower_model.proofs.Answering.{taken_ok}
 use Rattle.lower_model.proofs.Arrays.{owner_at, array_pushed_ok}
 use Rattle.lower_model.proofs.Converting.{Converted, converted_ok}
-use Rattle.lower_model.proofs.Setting.{number_of_form, number_boxed, number_held}
+use Rattle.lower_model.proofs.Lending.{Lends}
+use Rattle.lower_model.proofs.Lent.{LentAt, IsLender, CopiesStand, lent_ok, all_stand}
 use Rattle.lower_model.proofs.Arguments.{Under, under_self, under_then, under_keeps, onto_reverse}
 use Rattle.lower_model.proofs.Operands.{all_held_same}
 use Rattle.lower_model.proofs.Simulation.{work_of, works_of, extra_of, past, made_past, past_from, made_from, past_room, layout, context, all_meant, Done, ExprOk, AllHeld, AllDone, CodesOk, walking_same}
 use Rattle.lower_model.proofs.Waiting.{freed_after, makes_few_there, waits_there}
 
 -- an array is made for nothing but an array that the function is given
-made_given : (fs : List Form) (pks : List Kind) (es : Codes) → fit_call fs pks es ≡ true → made_in es ≤ array_kinds pks
-made_given fs [] End e = omega arith
-made_given fs (Boxed ∷ pks) (At c es) e =
-    let r = made_given fs pks es (and_parts (is_given (form_of fs c) Boxed) (fit_call fs pks es) e).1 in
+made_given : (lender : ℕ → Option ℕ) (fs : List Form) (pks : List Kind) (es : Codes) → fit_call lender fs pks es ≡ true → made_in es ≤ array_kinds pks
+made_given lender fs [] End e = omega arith
+made_given lender fs (Boxed ∷ pks) (At c es) e =
+    let r = made_given (λ j. lender (suc j)) fs pks es (and_parts (is_given (lender zero) (source_of c) (form_of fs c) Boxed) (fit_call (λ j. lender (suc j)) fs pks es) e).1 in
     omega (arith, r)
-made_given fs (Unboxed ∷ pks) (At c es) e =
-    let r = made_given fs pks es (and_parts (is_given (form_of fs c) Unboxed) (fit_call fs pks es) e).1 in
+made_given lender fs (Unboxed ∷ pks) (At c es) e =
+    let r = made_given (λ j. lender (suc j)) fs pks es (and_parts (is_given (lender zero) (source_of c) (form_of fs c) Unboxed) (fit_call (λ j. lender (suc j)) fs pks es) e).1 in
     omega (arith, r)
-made_given fs (ArrayKind ∷ pks) (At c es) e =
-    let r = made_given fs pks es (and_parts (is_given (form_of fs c) ArrayKind) (fit_call fs pks es) e).1 in
+made_given lender fs (ArrayKind ∷ pks) (At c es) e =
+    let r = made_given (λ j. lender (suc j)) fs pks es (and_parts (is_given (lender zero) (source_of c) (form_of fs c) ArrayKind) (fit_call (λ j. lender (suc j)) fs pks es) e).1 in
     omega (arith, r)
-made_given fs (ArrayKind ∷ pks) (Fresh es) e = let r = made_given fs pks es e in omega (arith, r)
-made_given fs pks es e = absurd (true≢false (sym e))
-
--- what an unboxed parameter is given is a number, or nothing yet
-unboxed_given : (f : Form) (x : Holds f) (t : ℕ) (l : Locals) → is_given f Unboxed ≡ true → HoldsAt f t l x → (l.hand t ≡ empty) × (l.number t ≡ Bits (I64 (bare (boxed f x)))) × (beside (boxed f x) ≡ empty)
-unboxed_given OptionalNumber None t l e q = (q.0, q.1, refl)
-unboxed_given OptionalNumber (Some m) t l e q = (q.0, q.1 ∙ ap (λ z. Bits (I64 z)) (sym (bare_number m)), beside_number m)
-unboxed_given (PrimitiveAnswer a) x t l e q =
-    let nh = number_held (PrimitiveAnswer a) x e t l q in
-    let nb = number_boxed (PrimitiveAnswer a) x e in
-    (nh.0, nh.1 ∙ ap (λ z. Bits (I64 z)) (sym (ap bare nb ∙ bare_number (number_of_form (PrimitiveAnswer a) x e))), ap beside nb ∙ beside_number (number_of_form (PrimitiveAnswer a) x e))
-unboxed_given NumberOrText x t l e q = absurd (true≢false (sym e))
+made_given lender fs (ArrayKind ∷ pks) (Fresh es) e = let r = made_given (λ j. lender (suc j)) fs pks es e in omega (arith, r)
+made_given lender fs pks es e = absurd (true≢false (sym e))
 
 abbrev give_work : Codes → ℕ
 give_work End = 0
@@ -101,36 +92,36 @@ module _ (p : Program) (deepest : Observer) (ks : List Kind) (F : List Frame) (b
   array_there f x a t l σ e hd m = absurd (true≢false (sym e))
 
   -- what is given for parameters of these kinds, as it stands in temporaries
-  abbrev GivenAt : (fs : List Form) (pks : List Kind) (es : Codes) (t w : ℕ) → Locals → State → Values fs es → Type 0
-  GivenAt fs [] End t w l σ vs = Unit {0}
-  GivenAt fs (Boxed ∷ pks) (At e es) t w l σ vs = (l.hand t ≡ Held (boxed (form_of fs e) vs.0)) × GivenAt fs pks es (suc t) w l σ vs.1
-  GivenAt fs (Unboxed ∷ pks) (At e es) t w l σ vs = ((l.hand t ≡ empty) × (l.number t ≡ Bits (I64 (bare (boxed (form_of fs e) vs.0)))) × (beside (boxed (form_of fs e) vs.0) ≡ empty)) × GivenAt fs pks es (suc t) w l σ vs.1
-  GivenAt fs (ArrayKind ∷ pks) (At e es) t w l σ vs = ((l.hand t ≡ empty) × (array_at (array_meant e) σ ≡ array_in (form_of fs e) vs.0) × (is_array_place (context_of p ks) (array_meant e) ≡ true)) × GivenAt fs pks es (suc t) w l σ vs.1
-  GivenAt fs (ArrayKind ∷ pks) (Fresh es) t w l σ vs = (l.array w ≡ OwnedArray vs.0) × GivenAt fs pks es t (suc w) l σ vs.1
-  GivenAt fs pks es t w l σ vs = ⊥
+  abbrev GivenAt : (lender : ℕ → Option ℕ) (fs : List Form) (pks : List Kind) (es : Codes) (t w : ℕ) → Locals → State → Values fs es → Type 0
+  GivenAt lender fs [] End t w l σ vs = Unit {0}
+  GivenAt lender fs (Boxed ∷ pks) (At e es) t w l σ vs = (l.hand t ≡ Held (boxed (form_of fs e) vs.0)) × GivenAt (λ i. lender (suc i)) fs pks es (suc t) w l σ vs.1
+  GivenAt lender fs (Unboxed ∷ pks) (At e es) t w l σ vs = LentAt (form_of fs e) (lender zero) σ.globals vs.0 t l × GivenAt (λ i. lender (suc i)) fs pks es (suc t) w l σ vs.1
+  GivenAt lender fs (ArrayKind ∷ pks) (At e es) t w l σ vs = ((l.hand t ≡ empty) × (array_at (array_meant e) σ ≡ array_in (form_of fs e) vs.0) × (is_array_place (context_of p ks) (array_meant e) ≡ true)) × GivenAt (λ i. lender (suc i)) fs pks es (suc t) w l σ vs.1
+  GivenAt lender fs (ArrayKind ∷ pks) (Fresh es) t w l σ vs = (l.array w ≡ OwnedArray vs.0) × GivenAt (λ i. lender (suc i)) fs pks es t (suc w) l σ vs.1
+  GivenAt lender fs pks es t w l σ vs = ⊥
 
-  record AllGiven (fs : List Form) (pks : List Kind) (es : Codes) (t q u y w : ℕ) (k : Instructions) (K : List Label) (l : Locals) (σ : State) (vs : Values fs es) : Type 0 where
+  record AllGiven (lender : ℕ → Option ℕ) (fs : List Form) (pks : List Kind) (es : Codes) (t q u y w : ℕ) (k : Instructions) (K : List Label) (l : Locals) (σ : State) (vs : Values fs es) : Type 0 where
     next : Locals
     steps : ℕ
     few : steps ≤ give_work es
     goes : Goes (machine p deepest ks F) steps (at ks [] K (laid b l) F (all_given (layout p deepest ks F b M n) fs pks es t k) (beside_state p deepest ks F σ)) (at ks [] K (laid b next) F k (beside_state p deepest ks F σ))
     fit : Fit p deepest ks F q u y next σ
     under : Under t l next
-    given : GivenAt fs pks es t w next σ vs
+    given : GivenAt lender fs pks es t w next σ vs
 
   under_less : (t : ℕ) (l l1 : Locals) → Under (suc t) l l1 → Under t l l1
   under_less t l l1 a = record { hands = λ x h. a.hands x (omega (arith, h)); numbers = λ x h. a.numbers x (omega (arith, h)); iterators = a.iterators; arrays = a.arrays }
 
-  all_given_ok : (fs : List Form) (pks : List Kind) (es : Codes) (t q u y w : ℕ) (k : Instructions) (K : List Label) (l : Locals) (σ : State) (vs : Values fs es) → fit_call fs pks es ≡ true → past t es ≤ q → past t es ≤ b.temporaries → Fit p deepest ks F q u y l σ → AllHeld p deepest ks F b M n fs es t w l σ vs → AllGiven fs pks es t q u y w k K l σ vs
-  all_given_ok fs [] End t q u y w k K l σ vs e lq lt ft hd = record { next = l; steps = 0; few = omega arith; goes = stays; fit = ft; under = under_self t l; given = tt }
-  all_given_ok fs (Boxed ∷ pks) (At c es) t q u y w k K l σ vs e lq lt ft hd =
-      let ee = and_parts (fits (form_of fs c) sort.Value) (fit_call fs pks es) e in
+  all_given_ok : (lender : ℕ → Option ℕ) (from : (j g : ℕ) → lender j ≡ Some g → IsLender p g) (fs : List Form) (pks : List Kind) (es : Codes) (t q u y w : ℕ) (k : Instructions) (K : List Label) (l : Locals) (σ : State) (vs : Values fs es) → fit_call lender fs pks es ≡ true → CopiesStand p fs es vs σ → past t es ≤ q → past t es ≤ b.temporaries → Fit p deepest ks F q u y l σ → AllHeld p deepest ks F b M n fs es t w l σ vs → AllGiven lender fs pks es t q u y w k K l σ vs
+  all_given_ok lender from fs [] End t q u y w k K l σ vs e cs lq lt ft hd = record { next = l; steps = 0; few = omega arith; goes = stays; fit = ft; under = under_self t l; given = tt }
+  all_given_ok lender from fs (Boxed ∷ pks) (At c es) t q u y w k K l σ vs e cs lq lt ft hd =
+      let ee = and_parts (fits (form_of fs c) sort.Value) (fit_call (λ j. lender (suc j)) fs pks es) e in
       let pf = past_from (suc t) es in
       let k1 = all_given (layout p deepest ks F b M n) fs pks es (suc t) k in
       let r = converted_ok p deepest ks F b M (form_of fs c) sort.Value vs.0 q u y t zero k1 K l σ ee.0 (omega (arith, pf, lq)) (omega (arith, pf, lt)) ft hd.0 in
       let x = r.holds in
       let few = r.cost.few in
-      let z = all_given_ok fs pks es (suc t) q u y w k K x.next σ vs.1 ee.1 lq lt x.fit
+      let z = all_given_ok (λ j. lender (suc j)) (λ j. from (suc j)) fs pks es (suc t) q u y w k K x.next σ vs.1 ee.1 cs.1 lq lt x.fit
       (all_held_same p deepest ks F b M n fs es (suc t) w l x.next σ σ vs.1 (λ j g. refl) (λ i le ly. x.keeps.hands i (λ g. omega (arith, g, le))) (λ i le ly. x.keeps.numbers i (λ g. omega (arith, g, le))) (λ i le ly. x.keeps.arrays i) hd.2) in
       let zf = z.few in
       record {
@@ -145,40 +136,52 @@ module _ (p : Program) (deepest : Observer) (ks : List Kind) (F : List Frame) (b
     where
       converted_hand : (c : Code) (fs : List Form) (v : Holds (form_of fs c)) (q u y t : ℕ) (k1 : Instructions) (K : List Label) (l : Locals) (σ : State) (cf : Conf) → (x : Converted p deepest ks F b M q u y t a_value k1 K l (boxed (form_of fs c) v) σ cf) → x.next.hand t ≡ Held (boxed (form_of fs c) v)
       converted_hand c fs v q u y t k1 K l σ cf x = x.holds.0
-  all_given_ok fs (Unboxed ∷ pks) (At c es) t q u y w k K l σ vs e lq lt ft hd =
-      let ee = and_parts (is_given (form_of fs c) Unboxed) (fit_call fs pks es) e in
-      let g = unboxed_given (form_of fs c) vs.0 t l ee.0 hd.0 in
-      let z = all_given_ok fs pks es (suc t) q u y w k K l σ vs.1 ee.1 lq lt ft hd.2 in
+  all_given_ok lender from fs (Unboxed ∷ pks) (At c es) t q u y w k K l σ vs e cs lq lt ft hd =
+      let ee = and_parts (is_given (lender zero) (source_of c) (form_of fs c) Unboxed) (fit_call (λ j. lender (suc j)) fs pks es) e in
+      let pf = past_from (suc t) es in
+      let k1 = all_given (layout p deepest ks F b M n) fs pks es (suc t) k in
+      let r = lent_ok p deepest ks F b M n fs c vs.0 (lender zero) t q u y k1 K l σ ee.0 (λ g o. cs.0 g (from zero g o)) (omega (arith, pf, lq)) (omega (arith, pf, lt)) ft hd.0 in
+      let few = r.few in
+      let z = all_given_ok (λ j. lender (suc j)) (λ j. from (suc j)) fs pks es (suc t) q u y w k K r.next σ vs.1 ee.1 cs.1 lq lt r.fit
+      (all_held_same p deepest ks F b M n fs es (suc t) w l r.next σ σ vs.1 (λ j g. refl) (λ i le ly. r.keeps.hands i (λ g. omega (arith, g, le))) (λ i le ly. r.keeps.numbers i (λ g. omega (arith, g, le))) (λ i le ly. r.keeps.arrays i) hd.2) in
       let zf = z.few in
-      record { next = z.next; steps = z.steps; few = omega (arith, zf); goes = z.goes; fit = z.fit; under = under_less t l z.next z.under; given = ((z.under.hands t (omega arith) ∙ g.0, z.under.numbers t (omega arith) ∙ g.1, g.2), z.given) }
-  all_given_ok fs (ArrayKind ∷ pks) (At c es) t q u y w k K l σ vs e lq lt ft hd =
-      let ee = and_parts (fits (form_of fs c) sort.Array) (fit_call fs pks es) e in
+      record {
+        next = z.next;
+        steps = r.steps + z.steps;
+        few = omega (arith, few, zf);
+        goes = then_goes r.goes z.goes;
+        fit = z.fit;
+        under = under_then t (suc t) l r.next z.next (omega arith) (under_keeps t t l r.next (omega arith) r.keeps) z.under;
+        given = ((z.under.hands t (omega arith) ∙ r.given.0, subst (BareParameter (lender zero) σ.globals (boxed (form_of fs c) vs.0)) (sym (z.under.numbers t (omega arith))) r.given.1), z.given);
+      }
+  all_given_ok lender from fs (ArrayKind ∷ pks) (At c es) t q u y w k K l σ vs e cs lq lt ft hd =
+      let ee = and_parts (fits (form_of fs c) sort.Array) (fit_call (λ j. lender (suc j)) fs pks es) e in
       let g = array_there (form_of fs c) vs.0 (array_meant c) t l σ ee.0 hd.0 hd.1 in
-      let z = all_given_ok fs pks es (suc t) q u y w k K l σ vs.1 ee.1 lq lt ft hd.2 in
+      let z = all_given_ok (λ j. lender (suc j)) (λ j. from (suc j)) fs pks es (suc t) q u y w k K l σ vs.1 ee.1 cs.1 lq lt ft hd.2 in
       let zf = z.few in
       record { next = z.next; steps = z.steps; few = omega (arith, zf); goes = z.goes; fit = z.fit; under = under_less t l z.next z.under; given = ((z.under.hands t (omega arith) ∙ g.0, g.1, g.2), z.given) }
-  all_given_ok fs (ArrayKind ∷ pks) (Fresh es) t q u y w k K l σ vs e lq lt ft hd =
-      let z = all_given_ok fs pks es t q u y (suc w) k K l σ vs.1 e lq lt ft hd.1 in
+  all_given_ok lender from fs (ArrayKind ∷ pks) (Fresh es) t q u y w k K l σ vs e cs lq lt ft hd =
+      let z = all_given_ok (λ j. lender (suc j)) (λ j. from (suc j)) fs pks es t q u y (suc w) k K l σ vs.1 e cs lq lt ft hd.1 in
       record { next = z.next; steps = z.steps; few = z.few; goes = z.goes; fit = z.fit; under = z.under; given = (z.under.arrays w ∙ hd.0, z.given) }
-  all_given_ok fs pks es t q u y w k K l σ vs e lq lt ft hd = absurd (true≢false (sym e))
+  all_given_ok lender from fs pks es t q u y w k K l σ vs e cs lq lt ft hd = absurd (true≢false (sym e))
 
   -- The words of a call.
 
   -- an array that is lent: it is the program's, a caller's that waits, or one that was made for this call
-  abbrev pub LentFor : Locals → ℕ → Cell → Type 0
-  LentFor l a c = IsArray p deepest ks F a c ⊎ ((c ≡ LentArray a) × ((x : ℕ) × (x < b.arrays) × (l.array x ≡ OwnedArray a)))
+  abbrev pub LentFor : (ℕ → Cell) → ℕ → Cell → Type 0
+  LentFor owned a c = IsArray p deepest ks F a c ⊎ ((c ≡ LentArray a) × ((x : ℕ) × (x < b.arrays) × (owned x ≡ OwnedArray a)))
 
-  abbrev WordFor : Locals → Kind → Local → Cell → Type 0
-  WordFor l Boxed o c = c ≡ Held (value_in_local o)
-  WordFor l Unboxed o c = (c ≡ Bits (I64 (bare (value_in_local o)))) × (beside (value_in_local o) ≡ empty)
-  WordFor l ArrayKind o c = LentFor l (array_in_local o) c
+  abbrev WordFor : Option ℕ → List Value → (ℕ → Cell) → Kind → Local → Cell → Type 0
+  WordFor lender gs owned Boxed o c = c ≡ Held (value_in_local o)
+  WordFor lender gs owned Unboxed o c = BareParameter lender gs (value_in_local o) c
+  WordFor lender gs owned ArrayKind o c = LentFor owned (array_in_local o) c
 
-  abbrev WordsAt : Locals → List Kind → List Local → List Cell → Type 0
-  WordsAt l [] [] [] = Unit {0}
-  WordsAt l (k ∷ pks) (o ∷ os) (c ∷ cs) = WordFor l k o c × WordsAt l pks os cs
-  WordsAt l pks os cs = ⊥
+  abbrev WordsAt : (ℕ → Option ℕ) → List Value → (ℕ → Cell) → List Kind → List Local → List Cell → Type 0
+  WordsAt lender gs owned [] [] [] = Unit {0}
+  WordsAt lender gs owned (k ∷ pks) (o ∷ os) (c ∷ cs) = WordFor (lender zero) gs owned k o c × WordsAt (λ i. lender (suc i)) gs owned pks os cs
+  WordsAt lender gs owned pks os cs = ⊥
 
-  record AllPushed (fs : List Form) (pks : List Kind) (es : Codes) (t u y w : ℕ) (st : List Cell) (k : Instructions) (K : List Label) (l : Locals) (σ : State) (vs : Values fs es) : Type 0 where
+  record AllPushed (lender : ℕ → Option ℕ) (fs : List Form) (pks : List Kind) (es : Codes) (t u y w : ℕ) (st : List Cell) (k : Instructions) (K : List Label) (l : Locals) (σ : State) (vs : Values fs es) : Type 0 where
     words : List Cell
     next : Locals
     steps : ℕ
@@ -186,24 +189,24 @@ module _ (p : Program) (deepest : Observer) (ks : List Kind) (F : List Frame) (b
     goes : Goes (machine p deepest ks F) steps (at ks st K (laid b l) F (all_given_pushed (layout p deepest ks F b M n) pks es t w k) (beside_state p deepest ks F σ)) (at ks (reverse words ++ st) K (laid b next) F k (beside_state p deepest ks F σ))
     fit : Fit p deepest ks F t u y next σ
     under : Under t l next
-    given : WordsAt l pks (locals_of fs pks es vs) words
+    given : WordsAt lender σ.globals l.array pks (locals_of fs pks es vs) words
 
-  given_same : (fs : List Form) (pks : List Kind) (es : Codes) (t w : ℕ) (l l1 : Locals) (σ : State) (vs : Values fs es) → ((x : ℕ) → t ≤ x → l1.hand x ≡ l.hand x) → ((x : ℕ) → t ≤ x → l1.number x ≡ l.number x) → ((x : ℕ) → l1.array x ≡ l.array x) → GivenAt fs pks es t w l σ vs → GivenAt fs pks es t w l1 σ vs
-  given_same fs [] End t w l l1 σ vs h m a g = tt
-  given_same fs (Boxed ∷ pks) (At e es) t w l l1 σ vs h m a g = (h t (omega arith) ∙ g.0, given_same fs pks es (suc t) w l l1 σ vs.1 (λ x le. h x (omega (arith, le))) (λ x le. m x (omega (arith, le))) a g.1)
-  given_same fs (Unboxed ∷ pks) (At e es) t w l l1 σ vs h m a g = ((h t (omega arith) ∙ g.0.0, m t (omega arith) ∙ g.0.1, g.0.2), given_same fs pks es (suc t) w l l1 σ vs.1 (λ x le. h x (omega (arith, le))) (λ x le. m x (omega (arith, le))) a g.1)
-  given_same fs (ArrayKind ∷ pks) (At e es) t w l l1 σ vs h m a g = ((h t (omega arith) ∙ g.0.0, g.0.1, g.0.2), given_same fs pks es (suc t) w l l1 σ vs.1 (λ x le. h x (omega (arith, le))) (λ x le. m x (omega (arith, le))) a g.1)
-  given_same fs (ArrayKind ∷ pks) (Fresh es) t w l l1 σ vs h m a g = (a w ∙ g.0, given_same fs pks es t (suc w) l l1 σ vs.1 h m a g.1)
-  given_same fs pks es t w l l1 σ vs h m a g = absurd g
+  given_same : (lender : ℕ → Option ℕ) (fs : List Form) (pks : List Kind) (es : Codes) (t w : ℕ) (l l1 : Locals) (σ : State) (vs : Values fs es) → ((x : ℕ) → t ≤ x → l1.hand x ≡ l.hand x) → ((x : ℕ) → t ≤ x → l1.number x ≡ l.number x) → ((x : ℕ) → l1.array x ≡ l.array x) → GivenAt lender fs pks es t w l σ vs → GivenAt lender fs pks es t w l1 σ vs
+  given_same lender fs [] End t w l l1 σ vs h m a g = tt
+  given_same lender fs (Boxed ∷ pks) (At e es) t w l l1 σ vs h m a g = (h t (omega arith) ∙ g.0, given_same (λ i. lender (suc i)) fs pks es (suc t) w l l1 σ vs.1 (λ x le. h x (omega (arith, le))) (λ x le. m x (omega (arith, le))) a g.1)
+  given_same lender fs (Unboxed ∷ pks) (At e es) t w l l1 σ vs h m a g = ((h t (omega arith) ∙ g.0.0, subst (BareParameter (lender zero) σ.globals (boxed (form_of fs e) vs.0)) (sym (m t (omega arith))) g.0.1), given_same (λ i. lender (suc i)) fs pks es (suc t) w l l1 σ vs.1 (λ x le. h x (omega (arith, le))) (λ x le. m x (omega (arith, le))) a g.1)
+  given_same lender fs (ArrayKind ∷ pks) (At e es) t w l l1 σ vs h m a g = ((h t (omega arith) ∙ g.0.0, g.0.1, g.0.2), given_same (λ i. lender (suc i)) fs pks es (suc t) w l l1 σ vs.1 (λ x le. h x (omega (arith, le))) (λ x le. m x (omega (arith, le))) a g.1)
+  given_same lender fs (ArrayKind ∷ pks) (Fresh es) t w l l1 σ vs h m a g = (a w ∙ g.0, given_same (λ i. lender (suc i)) fs pks es t (suc w) l l1 σ vs.1 h m a g.1)
+  given_same lender fs pks es t w l l1 σ vs h m a g = absurd g
 
-  all_given_pushed_ok : (fs : List Form) (pks : List Kind) (es : Codes) (t u y w : ℕ) (st : List Cell) (k : Instructions) (K : List Label) (l : Locals) (σ : State) (vs : Values fs es) → length ks ≡ b.parameters → past t es ≤ b.temporaries → made_past w es ≤ b.arrays → Fit p deepest ks F (past t es) u y l σ → GivenAt fs pks es t w l σ vs → AllPushed fs pks es t u y w st k K l σ vs
-  all_given_pushed_ok fs [] End t u y w st k K l σ vs pk lt lw ft g = record { words = []; next = l; steps = 0; few = omega arith; goes = stays; fit = ft; under = under_self t l; given = tt }
-  all_given_pushed_ok fs (Boxed ∷ pks) (At e es) t u y w st k K l σ vs pk lt lw ft g =
+  all_given_pushed_ok : (lender : ℕ → Option ℕ) (fs : List Form) (pks : List Kind) (es : Codes) (t u y w : ℕ) (st : List Cell) (k : Instructions) (K : List Label) (l : Locals) (σ : State) (vs : Values fs es) → length ks ≡ b.parameters → past t es ≤ b.temporaries → made_past w es ≤ b.arrays → Fit p deepest ks F (past t es) u y l σ → GivenAt lender fs pks es t w l σ vs → AllPushed lender fs pks es t u y w st k K l σ vs
+  all_given_pushed_ok lender fs [] End t u y w st k K l σ vs pk lt lw ft g = record { words = []; next = l; steps = 0; few = omega arith; goes = stays; fit = ft; under = under_self t l; given = tt }
+  all_given_pushed_ok lender fs (Boxed ∷ pks) (At e es) t u y w st k K l σ vs pk lt lw ft g =
       let pf = past_from (suc t) es in
       let v = boxed (form_of fs e) vs.0 in
       let l1 = with_at l (Hand t) empty in
       let f1 = fit_hand p deepest ks F t (past (suc t) es) u y l σ empty (inl refl) (omega (arith, pf)) ft in
-      let z = all_given_pushed_ok fs pks es (suc t) u y w (Held v ∷ st) k K l1 σ vs.1 pk lt lw f1 (given_same fs pks es (suc t) w l l1 σ vs.1 (λ x le. upd_other l.hand t x empty (λ q. omega (arith, q, le))) (λ x le. refl) (λ x. refl) g.1) in
+      let z = all_given_pushed_ok (λ i. lender (suc i)) fs pks es (suc t) u y w (Held v ∷ st) k K l1 σ vs.1 pk lt lw f1 (given_same (λ i. lender (suc i)) fs pks es (suc t) w l l1 σ vs.1 (λ x le. upd_other l.hand t x empty (λ q. omega (arith, q, le))) (λ x le. refl) (λ x. refl) g.1) in
       let zf = z.few in
       record {
         words = Held v ∷ z.words;
@@ -215,25 +218,26 @@ module _ (p : Program) (deepest : Observer) (ks : List Kind) (F : List Frame) (b
         under = record { hands = λ x h. z.under.hands x (omega (arith, h)) ∙ upd_other l.hand t x empty (λ q. omega (arith, q, h)); numbers = λ x h. z.under.numbers x (omega (arith, h)); iterators = z.under.iterators; arrays = z.under.arrays };
         given = (refl, z.given);
       }
-  all_given_pushed_ok fs (Unboxed ∷ pks) (At e es) t u y w st k K l σ vs pk lt lw ft g =
+  all_given_pushed_ok lender fs (Unboxed ∷ pks) (At e es) t u y w st k K l σ vs pk lt lw ft g =
       let pf = past_from (suc t) es in
-      let c = Bits (I64 (bare (boxed (form_of fs e) vs.0))) in
-      let z = all_given_pushed_ok fs pks es (suc t) u y w (c ∷ st) k K l σ vs.1 pk lt lw ft g.1 in
+      let m = g.0.1.0 in
+      let c = Bits (I64 m) in
+      let z = all_given_pushed_ok (λ i. lender (suc i)) fs pks es (suc t) u y w (c ∷ st) k K l σ vs.1 pk lt lw ft g.1 in
       let zf = z.few in
       record {
         words = c ∷ z.words;
         next = z.next;
         steps = 1 + z.steps;
         few = omega (arith, zf);
-        goes = goes_to (then_goes (get_copied b l (NumberAt t) c (omega (arith, pf, lt)) g.0.1 refl) z.goes) (ap (λ ws. at ks ws K (laid b z.next) F k (beside_state p deepest ks F σ)) (onto_reverse c z.words st));
+        goes = goes_to (then_goes (get_copied b l (NumberAt t) c (omega (arith, pf, lt)) g.0.1.1 refl) z.goes) (ap (λ ws. at ks ws K (laid b z.next) F k (beside_state p deepest ks F σ)) (onto_reverse c z.words st));
         fit = fit_less p deepest ks F t u y z.next σ (z.under.hands t (omega arith) ∙ g.0.0) z.fit;
         under = under_less t l z.next z.under;
-        given = ((refl, g.0.2), z.given);
+        given = ((m, refl, g.0.1.2), z.given);
       }
-  all_given_pushed_ok fs (ArrayKind ∷ pks) (At e es) t u y w st k K l σ vs pk lt lw ft g =
+  all_given_pushed_ok lender fs (ArrayKind ∷ pks) (At e es) t u y w st k K l σ vs pk lt lw ft g =
       let pf = past_from (suc t) es in
       let r = array_pushed_ok p deepest ks F b (array_meant e) (past (suc t) es) u y st (all_given_pushed (layout p deepest ks F b M n) pks es (suc t) w k) K l σ g.0.2 pk ft in
-      let z = all_given_pushed_ok fs pks es (suc t) u y w (r.cell ∷ st) k K l σ vs.1 pk lt lw ft g.1 in
+      let z = all_given_pushed_ok (λ i. lender (suc i)) fs pks es (suc t) u y w (r.cell ∷ st) k K l σ vs.1 pk lt lw ft g.1 in
       let rf = r.few in
       let zf = z.few in
       record {
@@ -246,12 +250,12 @@ module _ (p : Program) (deepest : Observer) (ks : List Kind) (F : List Frame) (b
         under = under_less t l z.next z.under;
         given = (inl (subst (λ a. IsArray p deepest ks F a r.cell) g.0.1 r.array), z.given);
       }
-  all_given_pushed_ok fs (ArrayKind ∷ pks) (Fresh es) t u y w st k K l σ vs pk lt lw ft g =
+  all_given_pushed_ok lender fs (ArrayKind ∷ pks) (Fresh es) t u y w st k K l σ vs pk lt lw ft g =
       let mf = made_from (suc w) es in
       let a = vs.0 in
       let l1 = with_at l (Yard w) Gone in
       let k1 = all_given_pushed (layout p deepest ks F b M n) pks es t (suc w) k in
-      let z = all_given_pushed_ok fs pks es t u y (suc w) (LentArray a ∷ st) k K l σ vs.1 pk lt lw ft g.1 in
+      let z = all_given_pushed_ok (λ i. lender (suc i)) fs pks es t u y (suc w) (LentArray a ∷ st) k K l σ vs.1 pk lt lw ft g.1 in
       let zf = z.few in
       record {
         words = LentArray a ∷ z.words;
@@ -267,7 +271,7 @@ module _ (p : Program) (deepest : Observer) (ks : List Kind) (F : List Frame) (b
         under = z.under;
         given = (inr (refl, (w, omega (arith, mf, lw), g.0)), z.given);
       }
-  all_given_pushed_ok fs pks es t u y w st k K l σ vs pk lt lw ft g = absurd g
+  all_given_pushed_ok lender fs pks es t u y w st k K l σ vs pk lt lw ft g = absurd g
 
   -- Arrays that were made for a call are freed, the last one first.
 
@@ -336,10 +340,10 @@ module _ (p : Program) (deepest : Observer) (ks : List Kind) (F : List Frame) (b
   waiting K L rest = record { kinds = ks; under = []; labels = K; locals = L; rest = rest }
 
   -- what the parameters of a function have at its beginning, where Fs wait
-  abbrev pub GivenTo : (kinds : List Kind) (Fs : List Frame) → List Kind → List Local → List Cell → Type 0
-  GivenTo kinds Fs [] [] [] = Unit {0}
-  GivenTo kinds Fs (k ∷ pks) (o ∷ os) (c ∷ cs) = ParamIs p deepest kinds Fs k o c × GivenTo kinds Fs pks os cs
-  GivenTo kinds Fs pks os cs = ⊥
+  abbrev pub GivenTo : (lender : ℕ → Option ℕ) (globals : List Value) (kinds : List Kind) (Fs : List Frame) → List Kind → List Local → List Cell → Type 0
+  GivenTo lender gs kinds Fs [] [] [] = Unit {0}
+  GivenTo lender gs kinds Fs (k ∷ pks) (o ∷ os) (c ∷ cs) = ParamIs p deepest kinds Fs (lender zero) gs k o c × GivenTo (λ i. lender (suc i)) gs kinds Fs pks os cs
+  GivenTo lender gs kinds Fs pks os cs = ⊥
 
   -- it came back with an answer
   pub record CameBack (K : List Label) (L : List Cell) (rest : Instructions) (σ : State) (v : Value) (σ1 : State) (c : Conf) : Type 0 where
@@ -349,6 +353,7 @@ module _ (p : Program) (deepest : Observer) (ks : List Kind) (F : List Frame) (b
     pub comes : c ≡ at ks (Bits (I64 word) ∷ []) K L F rest (answering p.ranges (kinds_of p.globals) text σ1)
     pub sound : Sound p deepest ks F σ1
     pub own : σ1.own ≡ σ.own
+    pub lent : SameLent p deepest ks F σ σ1
 
   abbrev pub NoReturn : Stop → Type 0
   NoReturn (Returned v) = ⊥
@@ -365,21 +370,21 @@ module _ (p : Program) (deepest : Observer) (ks : List Kind) (F : List Frame) (b
   -- each call of a function does what it means
   abbrev pub CallsDo : Type 0
   CallsDo = (f : ℕ) (own : List Local) (words : List Cell) (K : List Label) (L : List Cell) (rest : Instructions) (σ : State) → f < length p.routines → waits ks K L rest ≡ true → makes_few (parameters_at (calls_of p) f) L ≡ true →
-      GivenTo (parameters_at (calls_of p) f) (waiting K L rest ∷ F) (parameters_at (calls_of p) f) own words → Sound p deepest ks F σ → σ.turns ≤ n →
+      GivenTo (lender_at p.lenders) σ.globals (parameters_at (calls_of p) f) (waiting K L rest ∷ F) (parameters_at (calls_of p) f) own words → Sound p deepest ks F σ → σ.turns ≤ n →
       Arrives (machine p deepest ks F) M 20 σ.turns (at ks (reverse words ++ []) K L F (emit (CallOf (function_number f)) rest) (beside_state p deepest ks F σ)) (CameBack K L rest σ) (LeftCall K L rest) (go_on (spent σ.turns σ) (λ x. noted_called deepest.notes p n f own))
 
-  lent_live : (kinds : List Kind) (K : List Label) (rest : Instructions) (l l1 : Locals) (a : ℕ) (c : Cell) → ((x : ℕ) → l1.array x ≡ l.array x) → LentFor l a c → IsArray p deepest kinds (waiting K (laid b l1) rest ∷ F) a c
+  lent_live : (kinds : List Kind) (K : List Label) (rest : Instructions) (l l1 : Locals) (a : ℕ) (c : Cell) → ((x : ℕ) → l1.array x ≡ l.array x) → LentFor l.array a c → IsArray p deepest kinds (waiting K (laid b l1) rest ∷ F) a c
   lent_live kinds K rest l l1 a c same (inl (inl q)) = inl q
   lent_live kinds K rest l l1 a c same (inl (inr (e, inl lt))) = inr (e, inl lt)
   lent_live kinds K rest l l1 a c same (inl (inr (e, inr w))) = inr (e, inr (or_right (has_owner a (laid b l1)) (owner_waits a F) w))
   lent_live kinds K rest l l1 a c same (inr (e, q)) = inr (e, inr (or_left (has_owner a (laid b l1)) (owner_waits a F) (owner_at (laid b l1) (local_of b (Yard q.0)) a (laid_at b l1 (Yard q.0) q.1 ∙ (same q.0 ∙ q.2)))))
 
-  to_given : (kinds : List Kind) (K : List Label) (rest : Instructions) (l l1 : Locals) (pks : List Kind) (os : List Local) (cs : List Cell) → ((x : ℕ) → l1.array x ≡ l.array x) → WordsAt l pks os cs → GivenTo kinds (waiting K (laid b l1) rest ∷ F) pks os cs
-  to_given kinds K rest l l1 [] [] [] same q = tt
-  to_given kinds K rest l l1 (Boxed ∷ pks) (o ∷ os) (c ∷ cs) same q = (q.0, to_given kinds K rest l l1 pks os cs same q.1)
-  to_given kinds K rest l l1 (Unboxed ∷ pks) (o ∷ os) (c ∷ cs) same q = (q.0, to_given kinds K rest l l1 pks os cs same q.1)
-  to_given kinds K rest l l1 (ArrayKind ∷ pks) (o ∷ os) (c ∷ cs) same q = (lent_live kinds K rest l l1 (array_in_local o) c same q.0, to_given kinds K rest l l1 pks os cs same q.1)
-  to_given kinds K rest l l1 pks os cs same q = absurd q
+  to_given : (lender : ℕ → Option ℕ) (gs : List Value) (kinds : List Kind) (K : List Label) (rest : Instructions) (l l1 : Locals) (pks : List Kind) (os : List Local) (cs : List Cell) → ((x : ℕ) → l1.array x ≡ l.array x) → WordsAt lender gs l.array pks os cs → GivenTo lender gs kinds (waiting K (laid b l1) rest ∷ F) pks os cs
+  to_given lender gs kinds K rest l l1 [] [] [] same q = tt
+  to_given lender gs kinds K rest l l1 (Boxed ∷ pks) (o ∷ os) (c ∷ cs) same q = (q.0, to_given (λ i. lender (suc i)) gs kinds K rest l l1 pks os cs same q.1)
+  to_given lender gs kinds K rest l l1 (Unboxed ∷ pks) (o ∷ os) (c ∷ cs) same q = (q.0, to_given (λ i. lender (suc i)) gs kinds K rest l l1 pks os cs same q.1)
+  to_given lender gs kinds K rest l l1 (ArrayKind ∷ pks) (o ∷ os) (c ∷ cs) same q = (lent_live kinds K rest l l1 (array_in_local o) c same q.0, to_given (λ i. lender (suc i)) gs kinds K rest l l1 pks os cs same q.1)
+  to_given lender gs kinds K rest l l1 pks os cs same q = absurd q
 
   -- The caller goes on.
 
@@ -434,32 +439,16 @@ module _ (p : Program) (deepest : Observer) (ks : List Kind) (F : List Frame) (b
       by Exited a = failed Exited (λ x z. refl) a
       by (Returned v) a = absurd a.none
 
-  -- the caller's own is as it was
-  fit_back : (t u y : ℕ) (l : Locals) (σ σ1 : State) → σ1.own ≡ σ.own → Sound p deepest ks F σ1 → Fit p deepest ks F t u y l σ → Fit p deepest ks F t u y l σ1
-  fit_back t u y l σ σ1 e s f = record {
-    params = λ i k h. subst (λ (o : CallFrame). ParamIs p deepest ks F k (get_or o.locals i (Scalar Uninit)) (l.param i)) (sym e) (f.params i k h);
-    size = ap (λ (o : CallFrame). length o.locals) e ∙ f.size;
-    answer = f.answer;
-    hands = f.hands;
-    numbers = f.numbers;
-    free = f.free;
-    walks = f.walks;
-    still = f.still;
-    yards = f.yards;
-    spare = f.spare;
-    sound = s;
-  }
-
-  pub call_expr : CallsDo → (f : ℕ) (es : Codes) → CodesOk p deepest ks F b M n es → ExprOk p deepest ks F b M n (Call f es)
+  pub call_expr : CallsDo → ((f : ℕ) (os : List Local) → Lends p (noted_called deepest.notes p n f os)) → (f : ℕ) (es : Codes) → CodesOk p deepest ks F b M n es → ExprOk p deepest ks F b M n (Call f es)
   unfolding emitted all_emitted evaluated all_evaluated sorted all_sorted
-  call_expr calls f es oks v fs env ts st t u w d k K l σ so us rm ar rd =
+  call_expr calls lends f es oks v fs env ts st t u w d k K l σ so us rm ar rd =
       let mach = machine p deepest ks F in
       let lay = layout p deepest ks F b M n in
       let Q = Away p deepest ks F b d K in
       let P = Done p deepest ks F b M n v (Call f es) fs env ts st t u w k K l σ in
       let pks = parameters_at (calls_of p) f in
-      let s1 = and_parts (nat_lt f (length (calls_of p))) (fit_call fs pks es && all_sorted (context p deepest ks F b M n) fs es) so in
-      let s2 = and_parts (fit_call fs pks es) (all_sorted (context p deepest ks F b M n) fs es) s1.1 in
+      let s1 = and_parts (nat_lt f (length (calls_of p))) (fit_call (lender_at p.lenders) fs pks es && all_sorted (context p deepest ks F b M n) fs es) so in
+      let s2 = and_parts (fit_call (lender_at p.lenders) fs pks es) (all_sorted (context p deepest ks F b M n) fs es) s1.1 in
       let fl : f < length (calls_of p) = ltb-true f (length (calls_of p)) s1.0 in
       let ln = length-map p.routines (λ (r : Routine). r.parameters) in
       let k5 = all_freed lay w (made_in es) k in
@@ -473,19 +462,24 @@ module _ (p : Program) (deepest : Observer) (ks : List Kind) (F : List Frame) (b
       let ex = extra_for_call es in
       let none = rd.none in
       let fb = freed_after lay w (made_in es) k in
-      let mg = made_given fs pks es s2.0 in
-      then_on mach M (works_of es) (41 + extra_of es) (work_of (Call f es)) σ.turns _ (AllDone p deepest ks F b M n es fs env ts st t u w k1 K l σ) P Q (all_meant p deepest ks F b M n fs env es σ) _ (omega arith)
-      (oks fs env ts st t u w d k1 K l σ s2.1 us (omega (arith, rm)) ar rd)
-      (λ vs τ c1 le a.
-      let g = all_given_ok fs pks es t (past t es) u (made_past w es) w k2 K a.next τ vs s2.0 (omega arith) (omega (arith, pr, rm)) a.fit a.held in
-      let z = all_given_pushed_ok fs pks es t u (made_past w es) w [] k3 K g.next τ vs rd.parameters (omega (arith, pr, rm)) (omega (arith, mw, mm, ar)) g.fit g.given in
+      let mg = made_given (lender_at p.lenders) fs pks es s2.0 in
+      let D = AllDone p deepest ks F b M n es fs env ts st t u w k1 K l σ in
+      let X : Values fs es → State → Conf → Type 0 = λ vs τ c. D vs τ c × CopiesStand p fs es vs τ in
+      then_on mach M (works_of es) (41 + extra_of es) (work_of (Call f es)) σ.turns _ X P Q (all_meant p deepest ks F b M n fs env es σ) _ (omega arith)
+      (knowing mach M (works_of es) σ.turns _ D X Q (CopiesStand p fs es) (all_meant p deepest ks F b M n fs env es σ)
+      (all_stand p rd.fit.sound.lend ks n (noted_called deepest.notes p n) lends fs env es σ s2.1) (λ vs τ c h q. (h, q))
+      (oks fs env ts st t u w d k1 K l σ s2.1 us (omega (arith, rm)) ar rd))
+      (λ vs τ c1 le ac.
+      let a = ac.0 in
+      let g = all_given_ok (lender_at p.lenders) (λ j g e. (j, e)) fs pks es t (past t es) u (made_past w es) w k2 K a.next τ vs s2.0 ac.1 (omega arith) (omega (arith, pr, rm)) a.fit a.held in
+      let z = all_given_pushed_ok (lender_at p.lenders) fs pks es t u (made_past w es) w [] k3 K g.next τ vs rd.parameters (omega (arith, pr, rm)) (omega (arith, mw, mm, ar)) g.fit g.given in
       let gf = g.few in
       let zf = z.few in
       let own = locals_of fs pks es vs in
       first mach M (g.steps + z.steps) (41 + 3 * made_in es) (41 + extra_of es) τ.turns c1 _ P Q _ (goes_from a.comes (then_goes g.goes z.goes)) (omega (arith, gf, zf, ex))
       (then_step mach M (12 + 3 * made_in es) 29 (41 + 3 * made_in es) τ.turns _ (CameBack K (laid b z.next) k4 τ) P Q (go_on (spent τ.turns τ) (λ x. noted_called deepest.notes p n f own)) (omega arith)
       (λ x τ1 c2 cb.
-      let f1 = fit_back t u (made_past w es) z.next τ τ1 cb.own cb.sound z.fit in
+      let f1 = fit_state p deepest ks F t u (made_past w es) z.next τ τ1 cb.own cb.lent cb.sound z.fit in
       let tk = taken_ok p deepest ks F b t u (made_past w es) d cb.word cb.text k5 K z.next τ1 x (omega (arith, rm)) f1 cb.is in
       let q = tk.few in
       let owned : OwnedFrom w (made_in es) tk.next = λ i lt. (let o = made_owned fs es t w a.next τ vs a.held i lt in (o.0, tk.keeps.arrays (w + i) ∙ (z.under.arrays (w + i) ∙ (g.under.arrays (w + i) ∙ o.1)))) in
@@ -515,4 +509,4 @@ module _ (p : Program) (deepest : Observer) (ks : List Kind) (F : List Frame) (b
       })
       (left_onward 9 20 29 τ.turns _ (CameBack K (laid b z.next) k4 τ) (LeftCall K (laid b z.next) k4) Q (go_on (spent τ.turns τ) (λ x. noted_called deepest.notes p n f own)) (omega arith)
       (λ why τ1 c2 q. leaves_too t u (made_past w es) d k5 K z.next τ why τ1 c2 (λ e. let none = ap length e in omega (arith, none, fl)) (omega (arith, rm)) z.fit q)
-      (calls f own z.words K (laid b z.next) k4 τ (omega (arith, fl, ln)) (waits_there p deepest ks F b M n t u (made_past w es) d k5 K z.next τ z.fit (walking_same p deepest ks F b M n (loops_walked K) u l z.next (λ x. z.under.iterators x ∙ (g.under.iterators x ∙ a.same.iterators x)) rd.walking) rd.parameters (omega (arith, rm)) (omega (arith, mw, none, fb))) (makes_few_there p deepest ks F b M n t u (made_past w es) z.next τ z.fit rd.parameters pks (omega (arith, mw, none, mg))) (to_given pks K k4 g.next z.next pks own z.words z.under.arrays z.given) z.fit.sound (omega (arith, le, rd.turns))))))
+      (calls f own z.words K (laid b z.next) k4 τ (omega (arith, fl, ln)) (waits_there p deepest ks F b M n t u (made_past w es) d k5 K z.next τ z.fit (walking_same p deepest ks F b M n (loops_walked K) u l z.next (λ x. z.under.iterators x ∙ (g.under.iterators x ∙ a.same.iterators x)) rd.walking) rd.parameters (omega (arith, rm)) (omega (arith, mw, none, fb))) (makes_few_there p deepest ks F b M n t u (made_past w es) z.next τ z.fit rd.parameters pks (omega (arith, mw, none, mg))) (to_given (lender_at p.lenders) τ.globals pks K k4 g.next z.next pks own z.words z.under.arrays z.given) z.fit.sound (omega (arith, le, rd.turns))))))

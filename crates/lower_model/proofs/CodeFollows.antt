@@ -16,7 +16,7 @@ helped p = record {
   least = 40 + 4 * length (kinds_of p.globals);
   first_work = 11;
   read_work = 21 + 4 * length (kinds_of p.globals);
-  exprs = λ M deepest n le calls ks F b e. exprs_do p M deepest n le calls ks F b e;
+  exprs = λ M deepest n le calls lends ks F b e. exprs_do p M deepest n le calls lends ks F b e;
   starting = λ M deepest n le. starting p deepest (main_bases p) M n refl (omega arith) le;
   reading = λ M deepest n le. reading p deepest (main_bases p) M n refl (omega arith);
 }

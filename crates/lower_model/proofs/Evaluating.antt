@@ -63,4 +63,4 @@ module _ (p : Program) (deepest : Observer) (ks : List Kind) (F : List Frame) (b
     plainly_ok (Some q) e eq =
         let t = added_is e q eq in
         subst (Does (plainly_dropped (layout p deepest ks F b M n) (Some q) e d k) 110) (sym t.0)
-        (λ so rm ar. within (machine p deepest ks F) M (work_of q.added + 70) _ σ.turns _ (StepDone p deepest ks F b M n lo u bk ct k K l) (Away p deepest ks F b d K) _ (omega arith) (updated_ok p deepest ks F b M n q (exprs q.added) lo u d bk ct k K l σ so t.1 rm ar s))
+        (λ so rm ar. within (machine p deepest ks F) M (work_of q.added + 75) _ σ.turns _ (StepDone p deepest ks F b M n lo u bk ct k K l) (Away p deepest ks F b d K) _ (omega arith) (updated_ok p deepest ks F b M n q (exprs q.added) lo u d bk ct k K l σ so t.1 rm ar s))

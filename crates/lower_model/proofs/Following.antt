@@ -6,7 +6,10 @@ use Rattle.sem_primitives.specs.Jobs.{fault_of_job}
 use Rattle.mid_program.specs.Mid.{Kind, Program, Code}
 use Rattle.mid_program.specs.MidMeaning.{routine_at}
 use Rattle.sem_scripts.specs.ScriptRun.{unless}
-use Rattle.mid_program.specs.Sorted.{IsSorted, is_sorted, all_differ, announced_names, routines_sorted, parts_sorted, steps_sorted, context_of, kinds_of}
+use Rattle.sem_scripts.specs.ScriptState.{Local}
+use Rattle.lower_model.specs.Noted.{noted_called}
+use Rattle.lower_model.proofs.Lending.{Lends, called_lends}
+use Rattle.mid_program.specs.Sorted.{IsSorted, is_sorted, are_lenders, all_differ, announced_names, routines_sorted, parts_sorted, steps_sorted, context_of, kinds_of}
 use Rattle.lower_model.specs.Follows.{FollowsNoted, EmissionNotes}
 use Rattle.lower_model.specs.Functions.{main_bases}
 use Rattle.lower_model.specs.Machine.{Frame}
@@ -35,16 +38,22 @@ pub record Helped (p : Program) : Type 1 where
   pub least : ℕ
   pub first_work : ℕ
   pub read_work : ℕ
-  pub exprs : (M : ℕ) (deepest : Observer) (n : ℕ) → least ≤ M → CallsOk p deepest M n → (ks : List Kind) (F : List Frame) (b : Bases) (e : Code) → ExprOk p deepest ks F b M n e
+  pub exprs : (M : ℕ) (deepest : Observer) (n : ℕ) → least ≤ M → CallsOk p deepest M n → ((f : ℕ) (os : List Local) → Lends p (noted_called deepest.notes p n f os)) → (ks : List Kind) (F : List Frame) (b : Bases) (e : Code) → ExprOk p deepest ks F b M n e
   pub starting : (M : ℕ) (deepest : Observer) (n : ℕ) → least ≤ M → Starting p deepest (main_bases p) M n first_work
   pub reading : (M : ℕ) (deepest : Observer) (n : ℕ) → least ≤ M → Reading p deepest (main_bases p) M n read_work
 
 module _ (p : Program) (ok : IsSorted p) (h : Helped p) where
-  abbrev sorts : (all_differ (announced_names p) ≡ true) × (routines_sorted p p.routines && parts_sorted p (context_of p []) ≡ true)
-  sorts = and_parts (all_differ (announced_names p)) (routines_sorted p p.routines && parts_sorted p (context_of p [])) (is_true (is_sorted p) ok)
+  abbrev all_inside : Bool
+  all_inside = routines_sorted p p.routines && parts_sorted p (context_of p [])
+
+  abbrev sorts : (all_differ (announced_names p) ≡ true) × (are_lenders (kinds_of p.globals) p.lenders && all_inside ≡ true)
+  sorts = and_parts (all_differ (announced_names p)) (are_lenders (kinds_of p.globals) p.lenders && all_inside) (is_true (is_sorted p) ok)
+
+  abbrev lenders : (are_lenders (kinds_of p.globals) p.lenders ≡ true) × (all_inside ≡ true)
+  lenders = and_parts (are_lenders (kinds_of p.globals) p.lenders) all_inside sorts.1
 
   abbrev inner : (routines_sorted p p.routines ≡ true) × (parts_sorted p (context_of p []) ≡ true)
-  inner = and_parts (routines_sorted p p.routines) (parts_sorted p (context_of p [])) sorts.1
+  inner = and_parts (routines_sorted p p.routines) (parts_sorted p (context_of p [])) lenders.1
 
   abbrev begun_sorted : (steps_sorted (context_of p []) false false p.begin ≡ true) × (steps_sorted (context_of p []) false false p.items && steps_sorted (context_of p []) false false p.end ≡ true)
   begun_sorted = and_parts (steps_sorted (context_of p []) false false p.begin) (steps_sorted (context_of p []) false false p.items && steps_sorted (context_of p []) false false p.end) inner.1
@@ -70,7 +79,9 @@ module _ (p : Program) (ok : IsSorted p) (h : Helped p) where
   routines_few f lt = let q = routine_within p.routines f lt in omega (arith, q)
 
   exprs_of_main : (deepest : Observer) (n : ℕ) (e : Code) → ExprOk p deepest [] [] (main_bases p) bound n e
-  exprs_of_main deepest n e = h.exprs bound deepest n (omega arith) (calls_ok p deepest bound inner.0 routines_few (λ m. h.exprs bound deepest m (omega arith)) n) [] [] (main_bases p) e
+  exprs_of_main deepest n e = h.exprs bound deepest n (omega arith)
+      (calls_ok p deepest bound inner.0 routines_few (λ m c. h.exprs bound deepest m (omega arith) c (called_lends p lenders.0 inner.0 deepest.notes m)) n)
+      (called_lends p lenders.0 inner.0 deepest.notes n) [] [] (main_bases p) e
 
   -- the machine shows what the program does, whatever is noted
   pub follows : FollowsNoted p
@@ -84,7 +95,7 @@ module _ (p : Program) (ok : IsSorted p) (h : Helped p) where
         let read = h.reading bound d turns (omega arith) in
         let meant = main_meant p d b bound turns es begun_sorted.0 ended_sorted.0 ended_sorted.1 (omega arith) (omega arith) (omega arith) (omega arith) (omega arith) (omega arith) (omega arith) (omega arith) (omega arith) (omega arith) (omega arith) (omega arith) h.first_work h.read_work start read (omega arith) in
         shown p notes s bound main_bound turns (omega arith) (unless (fault_of_job s.job) (named_meant p notes s b turns sorts.0 meant) (begins p notes s b turns sorts.0))
-        (whole_ok p notes s bound turns sorts.0 (omega arith) (parts_bound + (main_exit_work b + 1)) meant
+        (whole_ok p notes s bound turns sorts.0 lenders.0 (omega arith) (parts_bound + (main_exit_work b + 1)) meant
         (λ l σ st. ends_well p d b bound turns parts_bound σ.turns _ (meant σ) refl
         (main_ok p d b bound turns es begun_sorted.0 ended_sorted.0 ended_sorted.1 (omega arith) (omega arith) (omega arith) (omega arith) (omega arith) (omega arith) (omega arith) (omega arith) (omega arith) (omega arith) (omega arith) (omega arith) h.first_work h.read_work start read (omega arith) _ l σ st)));
   }

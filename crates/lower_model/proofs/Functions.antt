@@ -13,7 +13,7 @@ use Rattle.wasm_store.specs.declared.word.Word.TheVariants.{I32, I64}
 use Rattle.mid_program.specs.Mid.{Kind, Program, Routine, Code, Steps}
 use Rattle.mid_program.specs.MidMeaning.{no_routine, routine_at}
 use Rattle.sem_scripts.specs.ScriptState.{State, CallFrame, Local, Scalar, Stop, Faulted, OutOfTurns, TooDeep, Nexted, Exited, Returned, Outcome, Gives, Stops, Execution, ◌>>◌, spend}
-use Rattle.mid_program.specs.Sorted.{has_kind, kinds_of, calls_of, routines_sorted, steps_sorted, context_of}
+use Rattle.mid_program.specs.Sorted.{lender_at, has_kind, kinds_of, calls_of, routines_sorted, steps_sorted, context_of}
 use Rattle.sem_scripts.specs.Statements.{Flow, Normal, Broke, Continued, returned, entered_with}
 use Rattle.lower_model.specs.Cells.{Cell, Bits, Gone, is_owned, none_owned}
 use Rattle.lower_model.specs.Emission.{function_number}
@@ -98,10 +98,10 @@ waiting ks K L k = record { kinds = ks; under = []; labels = K; locals = L; rest
 
 module _ (p : Program) (deepest : Observer) where
   -- the words that a call pushes stand for what the function is given
-  pub record GivenTo (js : List Kind) (F : List Frame) (words : List Cell) (os : List Local) : Type 0 where
+  pub record GivenTo (js : List Kind) (F : List Frame) (words : List Cell) (os : List Local) (σ : State) : Type 0 where
     pub wide : length words ≡ length js
     pub many : length os ≡ length js
-    pub each : (i : ℕ) (k : Kind) → has_kind js i k ≡ true → ParamIs p deepest js F k (get_or os i (Scalar Uninit)) (get_or words i Gone)
+    pub each : (i : ℕ) (k : Kind) → has_kind js i k ≡ true → ParamIs p deepest js F (lender_at p.lenders i) σ.globals k (get_or os i (Scalar Uninit)) (get_or words i Gone)
 
   -- after a call: the answer is on the stack, and the caller's own is as it was
   pub record Back (f : Frame) (F : List Frame) (o : CallFrame) (v : Value) (σ : State) (c : Conf) : Type 0 where
@@ -133,7 +133,7 @@ module _ (p : Program) (deepest : Observer) where
     body_labels = label [] None left_code ∷ (label [] None exit_code ∷ [])
 
     sound_back : (σ : State) → Sound p deepest js (f ∷ F) σ → Sound p deepest f.kinds F (record σ { own = own })
-    sound_back σ s = record { room = room; names = s.names; calm = s.calm }
+    sound_back σ s = record { room = room; names = s.names; calm = s.calm; lend = s.lend }
 
     -- the answer is the caller's, where nothing is held but iterators
     exits : (G : Store) (l : Locals) (v : Cell) (c : Conf) (P : Conf → Type 0) → Loose p deepest js (f ∷ F) l → ((x : ℕ) → x < b.temporaries → l.hand x ≡ empty) → ((x : ℕ) → x < b.arrays → l.array x ≡ empty) → l.answer ≡ v →
@@ -209,7 +209,7 @@ module _ (p : Program) (deepest : Observer) where
 
     -- a function runs, from its beginning to its exit
     run_ok : (body : Steps) → StepsOk p deepest js (f ∷ F) b M n body → steps_sorted (context_of p js) true false body ≡ true → steps_room body ≤ b.temporaries → steps_iterators body ≤ b.iterators → steps_arrays body ≤ b.arrays → steps_work body ≤ M →
-        (words : List Cell) (os : List Local) (σ : State) (m : ℕ) → GivenTo js (f ∷ F) words os → length (f ∷ F) + m ≡ deepest.callers → Sound p deepest f.kinds F σ → σ.turns ≤ n →
+        (words : List Cell) (os : List Local) (σ : State) (m : ℕ) → GivenTo js (f ∷ F) words os σ → length (f ∷ F) + m ≡ deepest.callers → Sound p deepest f.kinds F σ → σ.turns ≤ n →
         Arrives (machine p deepest js (f ∷ F)) M (begin_work b + (2 + (steps_work body + (exit_work b + 3)))) σ.turns (at js [] [] (words ++ zeros (local_types b)) (f ∷ F) (routine_body (layout_of p b) js body) (beside_state p deepest js (f ∷ F) σ)) (Back f F own) (Lost f F)
         (returned own (steps_meant p deepest js (f ∷ F) b M n body zero zero zero zero end_code (record σ { own = record { locals = os; calls_left = m } })))
     run_ok body oks so rm it ar wk words os σ m given deep s le =
@@ -237,7 +237,7 @@ module _ (p : Program) (deepest : Observer) where
             still = λ x lx. refl;
             yards = λ x. inl refl;
             spare = λ x lx. refl;
-            sound = record { room = deep; names = s.names; calm = s.calm };
+            sound = record { room = deep; names = s.names; calm = s.calm; lend = s.lend };
           };
           walked = λ x lt. absurd (omega (arith, lt));
           walks = omega arith;
@@ -251,7 +251,7 @@ module _ (p : Program) (deepest : Observer) where
   -- A call of a function, with n more inside one another. It costs a turn, which pays for all of it.
   abbrev pub CallOk : (M n f : ℕ) → Type 0
   CallOk M n f = (ks : List Kind) (F : List Frame) (K : List Label) (L : List Cell) (k : Instructions) (words : List Cell) (os : List Local) (σ : State) → waits ks K L k ≡ true → makes_few (routine_at p.routines f).parameters L ≡ true →
-      GivenTo (routine_at p.routines f).parameters (waiting ks K L k ∷ F) words os → Sound p deepest ks F σ → σ.turns ≤ n →
+      GivenTo (routine_at p.routines f).parameters (waiting ks K L k ∷ F) words os σ → Sound p deepest ks F σ → σ.turns ≤ n →
       Arrives (machine p deepest ks F) M 0 σ.turns (at ks (reverse words ++ []) K L F (emit (Call (function_number f)) k) (beside_state p deepest ks F σ)) (Back (waiting ks K L k) F σ.own) (Lost (waiting ks K L k) F) ((spend >> noted_called deepest.notes p n f os) σ)
 
   abbrev pub CallsOk : (M n : ℕ) → Type 0
@@ -313,7 +313,7 @@ module _ (p : Program) (deepest : Observer) where
 
     -- the frame is pushed where one more call may be nested
     pushed : (n f : ℕ) (room : ℕ) → CallsOk M n → f < length p.routines → (ks : List Kind) (F : List Frame) (K : List Label) (L : List Cell) (k : Instructions) (words : List Cell) (os : List Local) (σ : State) →
-        GivenTo (routine_at p.routines f).parameters (waiting ks K L k ∷ F) words os → Sound p deepest ks F σ → σ.turns ≤ n → σ.own.calls_left ≡ room →
+        GivenTo (routine_at p.routines f).parameters (waiting ks K L k ∷ F) words os σ → Sound p deepest ks F σ → σ.turns ≤ n → σ.own.calls_left ≡ room →
         Arrives (machine p deepest ks F) M (routine_work (routine_at p.routines f)) σ.turns
         (cond (nat_lt (length F) deepest.callers) (begins f ks F K L k words (beside_state p deepest ks F σ)) (Deep (beside_state p deepest ks F σ)))
         (Back (waiting ks K L k) F σ.own) (Lost (waiting ks K L k) F)
@@ -346,4 +346,4 @@ module _ (p : Program) (deepest : Observer) where
         (λ m e. absurd (omega (arith, e, le)))
     calls_ok (suc n) f lt ks F K L k words os σ wt mf given s le =
         turned (machine p deepest ks F) M σ.turns 0 (routine_work (routine_at p.routines f)) 0 σ _ _ (Back (waiting ks K L k) F σ.own) (Lost (waiting ks K L k) F) (noted_called deepest.notes p (suc n) f os) refl (entered f ks F K L k words (beside_state p deepest ks F σ) lt given.wide wt mf) refl (let q = few f lt in omega (arith, q))
-        (λ m e. pushed n f σ.own.calls_left (calls_ok n) lt ks F K L k words os (record σ { turns = m }) given (record { room = s.room; names = s.names; calm = s.calm }) (omega (arith, e, le)) refl)
+        (λ m e. pushed n f σ.own.calls_left (calls_ok n) lt ks F K L k words os (record σ { turns = m }) (record { wide = given.wide; many = given.many; each = given.each }) (record { room = s.room; names = s.names; calm = s.calm; lend = s.lend }) (omega (arith, e, le)) refl)

@@ -1,5 +1,5 @@
 -- `return`: what a function's answer is, in all forms; what is chosen is returned where it is chosen.
-use Rattle.std.proofs.Common.{◌≡◌, inl, ℕ, suc, ◌+◌, ◌<◌, ◌≤◌, Bool, true, false, List, [], ◌∷◌, Some, None, length, refl, sym, ap, ap₂, ◌∙◌, subst, arith}
+use Rattle.std.proofs.Common.{◌≡◌, inl, ℕ, suc, ◌+◌, ◌<◌, ◌≤◌, Bool, true, false, List, [], ◌∷◌, Some, None, length, refl, sym, ap, ap₂, ◌∙◌, subst, arith, Option}
 use Rattle.std.specs.Prelude.{◌&&◌, is_some, nat_eq, if◌then◌else◌}
 use Rattle.std.proofs.lemmas.Bool.{and_parts}
 use Rattle.awk_values.specs.declared.value.Value.{Value}
@@ -15,14 +15,14 @@ use Rattle.mid_program.specs.MidMeaning.{Holds, evaluated, all_evaluated, boxed,
 use Rattle.sem_scripts.specs.ScriptState.{State, Returned, Outcome, Gives, Stops, Execution, give, go_on, local_value, settled, stop}
 use Rattle.sem_scripts.specs.Statements.{Flow}
 use Rattle.sem_scripts.specs.Steps.{truth_number}
-use Rattle.mid_program.specs.Sorted.{There, fits, is_tested, kinds_of, sorted, all_sorted, test_sorted}
+use Rattle.mid_program.specs.Sorted.{There, fits, is_tested, kinds_of, sorted, all_sorted, test_sorted, lender_at}
 use Rattle.lower_model.specs.Cells.{Cell, Bits, Held, Gone, is_owned}
 use Rattle.lower_model.specs.Emission.{emitted, tested}
 use Rattle.lower_model.specs.Machine.{Conf, Label, Frame, at, br, label}
 use Rattle.lower_model.specs.Places.{Bases, room, arrays_in}
 use Rattle.lower_model.specs.Quick.{pair_in}
 use Rattle.lower_model.specs.Small.{emit_if, when, text_beside}
-use Rattle.lower_model.specs.Statements.{answer_given, block, left_unless_pair, returned, text_given, word_given}
+use Rattle.lower_model.specs.Statements.{answer_given, block, left_unless_pair, returned, text_given, word_given, parameter_returned}
 use Rattle.lower_model.proofs.Observer.{Observer}
 use Rattle.lower_model.proofs.Runs.{Goes, goes_to, goes_from, then_goes, by_steps, first, then_on, weaker, within, Reaches}
 use Rattle.lower_model.proofs.Regions.{upd_same}
@@ -30,7 +30,7 @@ use Rattle.lower_model.proofs.Globals.{Text}
 use Rattle.lower_model.proofs.GlobalSteps.{global_set_ok}
 use Rattle.lower_model.proofs.Locals.{Locals, Param, Hand, Number as NumberAt, Answer, with_at, laid}
 use Rattle.lower_model.proofs.Steps.{empty, get_copied, set_ok, moved_out_ok}
-use Rattle.lower_model.proofs.State.{AnswerIs, TextWaits, Nothing, ANumber, bare, beside, BareOf, BareIs, IsBeside, IsNone, IsNumber, cells_of, perhaps, answering, word_not_beside}
+use Rattle.lower_model.proofs.State.{AnswerIs, TextWaits, Nothing, ANumber, bare, beside, BareOf, BareIs, IsBeside, IsNone, IsNumber, cells_of, perhaps, answering, word_not_beside, BareParameter}
 use Rattle.lower_model.proofs.Relation.{HoldsAt, Fit, fit_hand, fit_less, fit_loose, Returns, Away, away_out}
 use Rattle.lower_model.proofs.Reading.{kind_below}
 use Rattle.lower_model.proofs.Conversions.{bare_is}
@@ -198,17 +198,22 @@ module _ (p : Program) (deepest : Observer) (ks : List Kind) (F : List Frame) (b
   parameter_given v none (IsNone ev e e1) = Nothing ev e refl
   parameter_given v none (IsNumber x ev e e1) = ANumber x ev e refl
 
-  parameter_ok : (i : ℕ) → ReturnOk (Get (Parameter true i))
+  -- where a global lends, the answer may be what that has
+  parameter_by : (i : ℕ) → ExprOk p deepest ks F b M n (Get (Parameter true i)) → (o : Option ℕ) → lender_at p.lenders i ≡ o → ReturnsBy (Get (Parameter true i)) (parameter_returned (layout p deepest ks F b M n) o i)
   unfolding evaluated all_evaluated sorted all_sorted
-  parameter_ok i u d k K l σ P fit so rm ar s =
+  parameter_by i ok None e u d k K l σ P fit so rm ar s =
       let v = local_value i σ in
+      let q = subst (λ o. BareParameter o σ.globals v (l.param i)) e (s.fit.params i Unboxed so) in
       let c = Bits (I64 (bare v)) in
-      let q = s.fit.params i Unboxed so in
       let lt = kind_below ks i Unboxed so in
       let pk = s.parameters in
       left_in (work_of (Get (Parameter true i)) + 20) 3 σ.turns _ (br (suc d) ks K (laid b (with_at l Answer c)) F (answering p.ranges (kinds_of p.globals) Gone σ)) (Returns p deepest ks F b d K v σ)
-      (then_goes (get_copied b l (Param i) c (omega (arith, lt, pk)) q.0 refl) (then_goes (set_ok b l Answer c tt (ap is_owned s.fit.answer)) (by_steps 1 refl))) (omega arith)
-      (returns_word v (bare v) Gone u d K l σ s.fit (parameter_given v q.1 (bare_is v)))
+      (then_goes (get_copied b l (Param i) c (omega (arith, lt, pk)) (q.1 ∙ ap (λ m. Bits (I64 m)) q.2.0) refl) (then_goes (set_ok b l Answer c tt (ap is_owned s.fit.answer)) (by_steps 1 refl))) (omega arith)
+      (returns_word v (bare v) Gone u d K l σ s.fit (parameter_given v q.2.1 (bare_is v)))
+  parameter_by i ok (Some g) e u d k K l σ P fit so rm ar s = alone_ok (Get (Parameter true i)) ok u d k K l σ P fit so rm ar s
+
+  parameter_ok : (i : ℕ) → ExprOk p deepest ks F b M n (Get (Parameter true i)) → ReturnOk (Get (Parameter true i))
+  parameter_ok i ok = parameter_by i ok (lender_at p.lenders i) refl
 
   -- what is chosen is returned where it is chosen
 
@@ -310,5 +315,5 @@ module _ (p : Program) (deepest : Observer) (ks : List Kind) (F : List Frame) (b
   -- `return` of any code
   pub returned_ok : ((e : Code) → ExprOk p deepest ks F b M n e) → (e : Code) → ReturnOk e
   returned_ok oks (Choose sort.Value c a1 a2) = chosen_ok c a1 a2 (oks c) (returned_ok oks a1) (returned_ok oks a2)
-  returned_ok oks (Get (Parameter true i)) = parameter_ok i
+  returned_ok oks (Get (Parameter true i)) = parameter_ok i (oks (Get (Parameter true i)))
   returned_ok oks e = alone_ok e (oks e)

@@ -21,6 +21,9 @@ use Rattle.lower_model.proofs.CopiedNames.{set_expr}
 use Rattle.lower_model.proofs.Immediates.{compare_expr}
 use Rattle.lower_model.proofs.Adding.{inline_expr}
 use Rattle.lower_model.proofs.FileLines.{file_line_expr}
+use Rattle.sem_scripts.specs.ScriptState.{Local}
+use Rattle.lower_model.specs.Noted.{noted_called}
+use Rattle.lower_model.proofs.Lending.{Lends}
 use Rattle.lower_model.proofs.Calling.{CallsDo, call_expr}
 use Rattle.lower_model.proofs.Asking.{assign_work}
 use Rattle.lower_model.proofs.AskingLines.{ask_expr, ask_line_expr}
@@ -37,6 +40,7 @@ module _ (p : Program) (deepest : Observer) (ks : List Kind) (F : List Frame) (b
   pub record Rest : Type 0 where
     pub paid : assign_work p deepest ks F b M n ≤ M
     pub calls : CallsDo p deepest ks F b M n
+    pub lends : (f : ℕ) (os : List Local) → Lends p (noted_called deepest.notes p n f os)
 
   module _ (rest : Rest) where
     mutual
@@ -47,7 +51,7 @@ module _ (p : Program) (deepest : Observer) (ks : List Kind) (F : List Frame) (b
       expr_ok (Do FieldNumber es) = do_field_number p deepest ks F b M n es (codes_ok es)
       expr_ok (Over l es) = over_expr p deepest ks F b M n l es (codes_ok es)
       expr_ok (Compare c x y) = compare_expr p deepest ks F b M n c x y (expr_ok x) (expr_ok y)
-      expr_ok (Call f es) = call_expr p deepest ks F b M n rest.calls f es (codes_ok es)
+      expr_ok (Call f es) = call_expr p deepest ks F b M n rest.calls rest.lends f es (codes_ok es)
       expr_ok Ask = ask_expr p deepest ks F b M n rest.paid
       expr_ok (AskLine s) = ask_line_expr p deepest ks F b M n rest.paid s (expr_ok s)
       expr_ok (FileLine e s) = file_line_expr p deepest ks F b M n e s (expr_ok e) (expr_ok s)

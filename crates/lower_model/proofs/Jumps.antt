@@ -124,7 +124,7 @@ module _ (p : Program) (deepest : Observer) (ks : List Kind) (F : List Frame) (b
         comes = refl;
         loose = fit_loose p deepest ks F 1 u zero a.next τ a.fit;
         answer = a.fit.answer;
-        after = (record { room = a.fit.sound.room; names = a.fit.sound.names; calm = a.fit.sound.calm }, fit_holds_none p deepest ks F u a.next τ (fit_less p deepest ks F zero u zero a.next τ a.holds.0 a.fit));
+        after = (record { room = a.fit.sound.room; names = a.fit.sound.names; calm = a.fit.sound.calm; lend = a.fit.sound.lend }, fit_holds_none p deepest ks F u a.next τ (fit_less p deepest ks F zero u zero a.next τ a.holds.0 a.fit));
       })))))
 
   pub return_step : ((e : Code) → ExprOk p deepest ks F b M n e) → (e : Code) → StepOk p deepest ks F b M n (Return e)
@@ -138,7 +138,7 @@ module _ (p : Program) (deepest : Observer) (ks : List Kind) (F : List Frame) (b
       (λ σ s. returned_ok p deepest ks F b M n oks e u d k K l σ P s1.0 s1.1 (omega (arith, rm)) (omega (arith, ar)) s)
 
   fit_range : (i : ℕ) (c : Bool) (t u w : ℕ) (l : Locals) (σ : State) → Fit p deepest ks F t u w l σ → Fit p deepest ks F t u w l (with_range i c σ)
-  fit_range i c t u w l σ f = record { params = f.params; size = f.size; answer = f.answer; hands = f.hands; numbers = f.numbers; free = f.free; walks = f.walks; still = f.still; yards = f.yards; spare = f.spare; sound = record { room = f.sound.room; names = f.sound.names; calm = f.sound.calm } }
+  fit_range i c t u w l σ f = record { params = f.params; size = f.size; answer = f.answer; hands = f.hands; numbers = f.numbers; free = f.free; walks = f.walks; still = f.still; yards = f.yards; spare = f.spare; sound = record { room = f.sound.room; names = f.sound.names; calm = f.sound.calm; lend = f.sound.lend } }
 
   range_written : (i : ℕ) (c : Bool) (σ : State) → placed p.ranges (length (kinds_of p.globals)) (with_global_at p.ranges (length (kinds_of p.globals)) (cells_of (kinds_of p.globals) 0 σ) (Range i) (Bits (I32 (flag_number c)))) ≡ placed p.ranges (length (kinds_of p.globals)) (cells_of (kinds_of p.globals) 0 (with_range i c σ))
   range_written i c σ =

@@ -69,6 +69,7 @@ pub mod Immediates
 pub mod Products
 pub mod Inlining
 pub mod Returning
+pub mod Lending
 pub mod Parts
 pub mod Endings
 pub mod Receiving
@@ -82,6 +83,7 @@ pub mod Announcing
 pub mod Starting
 pub mod Waiting
 pub mod Answering
+pub mod Lent
 pub mod Calling
 pub mod Induction
 pub mod Recursion

@@ -42,7 +42,7 @@ use Rattle.lower_model.proofs.InputLaws.{IsPending, GoodInput, next_main_row_goo
 use Rattle.lower_model.proofs.Spending.{Asks, state_after, conf_after, spends_ok}
 use Rattle.lower_model.proofs.Asking.{codes_fit, fit_answered, fit_faulted}
 use Rattle.lower_model.proofs.Pending.{made_locals, made_state, pending_meant, pending_made}
-use Rattle.lower_model.proofs.Written.{fit_global}
+use Rattle.lower_model.proofs.Written.{fit_global_by}
 use Rattle.lower_model.proofs.StatementForms.{Starts}
 use Rattle.lower_model.proofs.Parts.{On, Left}
 use Rattle.lower_model.proofs.Records.{After, Answered, Reading}
@@ -123,7 +123,7 @@ module _ (p : Program) (deepest : Observer) (b : Bases) (M n : ℕ) (none : zero
       let f5 = fit_hand p deepest [] [] 0 1 0 0 l3 σ1 value (inr (StrNum ip.text, refl)) (omega arith) f4 in
       let f6 = fit_hand p deepest [] [] 0 1 0 0 l4 σ1 empty (inl refl) (omega arith) f5 in
       let f7 = fit_less p deepest [] [] 0 0 0 l2 σ1 (upd_same l4.hand 0 empty) f6 in
-      let f8 = fit_global p deepest [] [] b M n ip.number (StrNum ip.text) 0 0 0 l2 σ1 f7 in
+      let f8 = fit_global_by p deepest [] [] b M n ip.number (StrNum ip.text) 0 0 0 l2 σ1 (λ j k h. cc) f7 in
       subst (λ o. Arrives mach M (21 + 4 * length (kinds_of p.globals)) m (at [] [] K (laid b l) [] (pending_assigned (layout_of p b) zero k) (beside_state p deepest [] [] σ)) (λ u. On p deepest b M n k K) (Away p deepest [] [] b d K) o) (sym (pending_meant p deepest [] [] b M n σ ip))
       (there mach M (21 + 4 * length (kinds_of p.globals)) pm.steps _ _ (tt {0}) σ2 (λ u. On p deepest b M n k K) (Away p deepest [] [] b d K) pm.goes q (record { next = l2; comes = refl; starts = starts_of K l2 σ2 walks le f8 }))
 
@@ -230,7 +230,7 @@ module _ (p : Program) (deepest : Observer) (b : Bases) (M n : ℕ) (none : zero
         left_for_good 11 σ.turns c K (λ u. On p deepest b M n k K) (first_assigned n σ) (first_only n σ)
         (subst (λ o. Arrives mach M 11 σ.turns c (λ u. On p deepest b M n k K) (Away p deepest [] [] b zero K) o) (onward (first_assigned n σ))
         (then_on mach M 11 0 11 σ.turns c (Started p deepest [] [] b M n 0 0 0 k K l σ) (λ u. On p deepest b M n k K) (Away p deepest [] [] b zero K) (first_assigned n σ) give (omega arith)
-        (first_assigned_ok p deepest [] [] b M n paid n 0 0 0 0 k K l σ two st.fit st.turns)
+        (first_assigned_ok p deepest [] [] b M n paid (λ i k h. cc) n 0 0 0 0 k K l σ two st.fit st.turns)
         (λ u τ c1 le h. there mach M 0 0 c1 c1 u τ (λ v. On p deepest b M n k K) (Away p deepest [] [] b zero K) stays (omega arith)
         (record { next = h.next; comes = h.comes; starts = starts_of K h.next τ st.loops (let most = st.turns in omega (arith, le, most)) h.fit }))));
   }

@@ -1,5 +1,5 @@
 -- Names and sources of quick ways: several names within the same bounds, sources among them, and sums that are in range.
-use Rattle.std.proofs.Common.{◌≡◌, ℕ, zero, suc, ◌+◌, ◌%◌, ◌^◌, ◌≤◌, Bool, true, false, T, nat_le, List, [], ◌∷◌, length, Some, None, Option, Ok, Result, ℤ, ◌+ℤ◌, neg_ℤ, unsigned_abs, w64, refl, sym, ap, ◌∙◌, subst, arith, if◌then◌else◌}
+use Rattle.std.proofs.Common.{◌≡◌, ℕ, zero, suc, ◌+◌, ◌%◌, ◌^◌, ◌≤◌, Bool, true, false, T, nat_le, List, [], ◌∷◌, length, Some, None, Option, Ok, Result, ℤ, ◌+ℤ◌, neg_ℤ, unsigned_abs, w64, refl, sym, ap, ◌∙◌, subst, arith, if◌then◌else◌, ◌⊎◌, inl, inr}
 use Rattle.std.specs.Prelude.{◌&&◌, ◌||◌, not, nat_lt, bit_or}
 use Rattle.std.proofs.lemmas.Nat.{le_or_l, le_or_r}
 use Rattle.std.proofs.lemmas.Bool.{and_parts, le-leb, le-ltb, ltb-false, eqb-true, eq-eqb}
@@ -26,6 +26,7 @@ use Rattle.lower_model.proofs.State.{bare, holder_slot, holder_value}
 use Rattle.lower_model.proofs.Products.{word, sum_word, difference_word, triangle}
 use Rattle.lower_model.proofs.Inlining.{checked_in, added_abs}
 use Rattle.lower_model.proofs.Quick.{Sure, sure, holder_is}
+use Rattle.lower_model.specs.Small.{least}
 
 -- Nothing is not something. `cc` finds it too, but reads all else that stands there.
 pub none_is : {A P : Type 0} {x : A} → None ≡ Some x → P
@@ -41,9 +42,14 @@ abbrev pub num_of : Source → State → Result AnyNumber Fault
 num_of (Held x) σ = number_of_row (holder_value x σ)
 num_of (Constant z) σ = Ok (or_zero (number_of z))
 
-abbrev pub word_of : Source → State → ℕ
-word_of (Held x) σ = bare (holder_value x σ)
-word_of (Constant z) σ = word z
+-- the words of holders
+
+abbrev pub Words : Type 0
+Words = Holder → ℕ
+
+abbrev pub word_of : Words → Source → ℕ
+word_of W (Held x) = W x
+word_of W (Constant z) = word z
 
 abbrev pub val_of : Source → State → Value
 val_of (Held x) σ = holder_value x σ
@@ -53,16 +59,24 @@ abbrev pub source_steps : Source → ℕ
 source_steps (Held i) = 1
 source_steps (Constant z) = 0
 
-abbrev pub shift_word : State → ℤ → Holder → ℕ
-shift_word σ q i = (bare (holder_value i σ) + word q) % 2 ^ 64
+abbrev pub shift_word : Words → ℤ → Holder → ℕ
+shift_word W q i = (W i + word q) % 2 ^ 64
 
-abbrev pub joined_word : State → ℤ → ℕ → List Holder → ℕ
-joined_word σ q v [] = v
-joined_word σ q v (i ∷ is) = joined_word σ q (bit_or v (shift_word σ q i)) is
+abbrev pub joined_word : Words → ℤ → ℕ → List Holder → ℕ
+joined_word W q v [] = v
+joined_word W q v (i ∷ is) = joined_word W q (bit_or v (shift_word W q i)) is
 
-abbrev pub all_flag : State → ℤ → ℕ → List Holder → Bool
-all_flag σ q w [] = false
-all_flag σ q w (i ∷ is) = nat_lt w (joined_word σ q (shift_word σ q i) is)
+abbrev pub all_flag : Words → ℤ → ℕ → List Holder → Bool
+all_flag W q w [] = false
+all_flag W q w (i ∷ is) = nat_lt w (joined_word W q (shift_word W q i) is)
+
+-- a holder's word is what its value tells, or it has nothing
+abbrev pub WordFits : ℕ → Value → Type 0
+WordFits m v = (m ≡ bare v) ⊎ (m ≡ least)
+
+abbrev pub AllWords : Words → State → List Holder → Type 0
+AllWords W σ [] = Unit {0}
+AllWords W σ (i ∷ is) = WordFits (W i) (holder_value i σ) × AllWords W σ is
 
 abbrev pub joined_steps : List Holder → ℕ
 joined_steps [] = 0
@@ -72,33 +86,44 @@ abbrev pub all_steps : List Holder → ℕ
 all_steps [] = 0
 all_steps (i ∷ is) = 2 + (joined_steps is + 1)
 
-abbrev pub AllSure : State → ℤ → ℕ → List Holder → Type 0
-AllSure σ q w [] = Unit {0}
-AllSure σ q w (i ∷ is) = Sure (holder_value i σ) q w × AllSure σ q w is
+-- a number within the bounds, and its word
+abbrev pub WordSure : Words → State → ℤ → ℕ → Holder → Type 0
+WordSure W σ q w i = Sure (holder_value i σ) q w × (W i ≡ bare (holder_value i σ))
 
-pub joined_above : (is : List Holder) (v : ℕ) (q : ℤ) (σ : State) → v ≤ joined_word σ q v is
-joined_above [] v q σ = omega arith
-joined_above (i ∷ is) v q σ =
-    let x = le_or_l v (shift_word σ q i) in
-    let y = joined_above is (bit_or v (shift_word σ q i)) q σ in
+abbrev pub AllSure : Words → State → ℤ → ℕ → List Holder → Type 0
+AllSure W σ q w [] = Unit {0}
+AllSure W σ q w (i ∷ is) = WordSure W σ q w i × AllSure W σ q w is
+
+pub joined_above : (W : Words) (is : List Holder) (v : ℕ) (q : ℤ) → v ≤ joined_word W q v is
+joined_above W [] v q = omega arith
+joined_above W (i ∷ is) v q =
+    let x = le_or_l v (shift_word W q i) in
+    let y = joined_above W is (bit_or v (shift_word W q i)) q in
     omega (arith, x, y)
 
-pub one_sure : (v : Value) (q : ℤ) (w : ℕ) → unsigned_abs q ≤ 2 ^ 54 → w ≤ 2 ^ 54 → (bare v + word q) % 2 ^ 64 ≤ w → Sure v q w
-one_sure v q w hq hw le = sure v q w hq hw (le-ltb w ((bare v + word q) % 2 ^ 64) le)
+-- a word within the bounds is that of a number
+pub one_sure : (m : ℕ) (v : Value) (q : ℤ) (w : ℕ) → WordFits m v → unsigned_abs q ≤ 2 ^ 54 → w ≤ 2 ^ 54 → (m + word q) % 2 ^ 64 ≤ w → Sure v q w × (m ≡ bare v)
+one_sure m v q w f hq hw le = elim f [
+  | inl e ↦ (sure v q w hq hw (le-ltb w ((bare v + word q) % 2 ^ 64) (subst (λ z. (z + word q) % 2 ^ 64 ≤ w) e le)), e)
+  | inr e ↦ absurd (none (sure value.Uninit q w hq hw (le-ltb w ((least + word q) % 2 ^ 64) (subst (λ z. (z + word q) % 2 ^ 64 ≤ w) e le))))
+]
+  where
+    none : Sure value.Uninit q w → ⊥
+    none s = let e = s.value in cc
 
-pub joined_sure : (is : List Holder) (v : ℕ) (q : ℤ) (w : ℕ) (σ : State) → unsigned_abs q ≤ 2 ^ 54 → w ≤ 2 ^ 54 → joined_word σ q v is ≤ w → AllSure σ q w is
-joined_sure [] v q w σ hq hw le = tt
-joined_sure (i ∷ is) v q w σ hq hw le =
-    let x = le_or_r v (shift_word σ q i) in
-    let y = joined_above is (bit_or v (shift_word σ q i)) q σ in
-    (one_sure (holder_value i σ) q w hq hw (omega (arith, x, y, le)), joined_sure is (bit_or v (shift_word σ q i)) q w σ hq hw le)
+pub joined_sure : (W : Words) (is : List Holder) (v : ℕ) (q : ℤ) (w : ℕ) (σ : State) → AllWords W σ is → unsigned_abs q ≤ 2 ^ 54 → w ≤ 2 ^ 54 → joined_word W q v is ≤ w → AllSure W σ q w is
+joined_sure W [] v q w σ f hq hw le = tt
+joined_sure W (i ∷ is) v q w σ f hq hw le =
+    let x = le_or_r v (shift_word W q i) in
+    let y = joined_above W is (bit_or v (shift_word W q i)) q in
+    (one_sure (W i) (holder_value i σ) q w f.0 hq hw (omega (arith, x, y, le)), joined_sure W is (bit_or v (shift_word W q i)) q w σ f.1 hq hw le)
 
-pub all_sure : (is : List Holder) (q : ℤ) (w : ℕ) (σ : State) → unsigned_abs q ≤ 2 ^ 54 → w ≤ 2 ^ 54 → all_flag σ q w is ≡ false → AllSure σ q w is
-all_sure [] q w σ hq hw e = tt
-all_sure (i ∷ is) q w σ hq hw e =
-    let le = ltb-false w (joined_word σ q (shift_word σ q i) is) e in
-    let y = joined_above is (shift_word σ q i) q σ in
-    (one_sure (holder_value i σ) q w hq hw (omega (arith, le, y)), joined_sure is (shift_word σ q i) q w σ hq hw le)
+pub all_sure : (W : Words) (is : List Holder) (q : ℤ) (w : ℕ) (σ : State) → AllWords W σ is → unsigned_abs q ≤ 2 ^ 54 → w ≤ 2 ^ 54 → all_flag W q w is ≡ false → AllSure W σ q w is
+all_sure W [] q w σ f hq hw e = tt
+all_sure W (i ∷ is) q w σ f hq hw e =
+    let le = ltb-false w (joined_word W q (shift_word W q i) is) e in
+    let y = joined_above W is (shift_word W q i) q in
+    (one_sure (W i) (holder_value i σ) q w f.0 hq hw (omega (arith, le, y)), joined_sure W is (shift_word W q i) q w σ f.1 hq hw le)
 
 pub same_is : (x y : Holder) → same_holder x y ≡ true → x ≡ y
 same_is (OfName i) (OfName j) e = ap OfName (eqb-true i j e)
@@ -109,12 +134,12 @@ pub same_self : (x : Holder) → same_holder x x ≡ true
 same_self (OfName i) = eq-eqb i i refl
 same_self (OfParameter i) = eq-eqb i i refl
 
-pub among_sure : (i : Holder) (is : List Holder) (q : ℤ) (w : ℕ) (σ : State) → is_among i is ≡ true → AllSure σ q w is → Sure (holder_value i σ) q w
-among_sure i [] q w σ e h = cc
-among_sure i (j ∷ js) q w σ e h = by (λ e1. among_sure i js q w σ e1 h.1) (same_holder i j) refl e
+pub among_sure : (W : Words) (i : Holder) (is : List Holder) (q : ℤ) (w : ℕ) (σ : State) → is_among i is ≡ true → AllSure W σ q w is → WordSure W σ q w i
+among_sure W i [] q w σ e h = cc
+among_sure W i (j ∷ js) q w σ e h = by (λ e1. among_sure W i js q w σ e1 h.1) (same_holder i j) refl e
   where
-    by : (is_among i js ≡ true → Sure (holder_value i σ) q w) → (t : Bool) → same_holder i j ≡ t → t || is_among i js ≡ true → Sure (holder_value i σ) q w
-    by r true et e1 = subst (λ k. Sure (holder_value k σ) q w) (sym (same_is i j et)) h.0
+    by : (is_among i js ≡ true → WordSure W σ q w i) → (t : Bool) → same_holder i j ≡ t → t || is_among i js ≡ true → WordSure W σ q w i
+    by r true et e1 = subst (WordSure W σ q w) (sym (same_is i j et)) h.0
     by r false et e1 = r e1
 
 pub name_among : (i : Holder) (is : List Holder) → is_among i (and_name i is) ≡ true

@@ -1,9 +1,9 @@
 -- Steps with a quick way: sums that go to a name, and tests of names and constants.
-use Rattle.std.proofs.Common.{◌≡◌, ℕ, zero, suc, ◌+◌, ◌^◌, ◌<◌, ◌≤◌, Bool, true, false, nat_eq, nat_le, List, [], ◌∷◌, length, Some, None, Option, Ok, Err, Result, ℤ, pos, ◌+ℤ◌, unsigned_abs, w64, refl, sym, ap, ap₂, ◌∙◌, subst, arith, if◌then◌else◌}
-use Rattle.std.specs.Prelude.{◌&&◌, T, not, cond}
+use Rattle.std.proofs.Common.{◌≡◌, ℕ, zero, suc, ◌+◌, ◌^◌, ◌<◌, ◌≤◌, Bool, true, false, nat_eq, nat_le, List, [], ◌∷◌, length, Some, None, Option, Ok, Err, Result, ℤ, pos, ◌+ℤ◌, unsigned_abs, w64, refl, sym, ap, ap₂, ◌∙◌, subst, arith, if◌then◌else◌, inl, inr}
+use Rattle.std.specs.Prelude.{◌&&◌, T, not, cond, nat_lt}
 use Rattle.std.proofs.Common.{true≢false}
 use Rattle.std.proofs.lemmas.Int.{ints}
-use Rattle.std.proofs.lemmas.Bool.{and_parts, eqb-true, le-leb, leb-true}
+use Rattle.std.proofs.lemmas.Bool.{and_parts, eqb-true, le-leb, leb-true, ltb-false}
 use Rattle.awk_values.specs.declared.fault.Fault.{Fault}
 use Rattle.awk_values.specs.declared.value.Value.{Value}
 use Rattle.awk_values.specs.declared.value.Value.TheVariants as value
@@ -60,9 +60,9 @@ use Rattle.lower_model.proofs.StatementForms.{flows_on, plain_meant, Starts, sta
 use Rattle.lower_model.proofs.Tidy.{begun_step}
 use Rattle.lower_model.proofs.Branches.{TestDone, test_meant, test_ok, block_ends}
 use Rattle.lower_model.proofs.Quick.{Sure, sure, shown_by, holder_is, name_is, constant_is, shift_pos, shifted_less, shifted_most, less_holds, most_holds}
-use Rattle.lower_model.proofs.QuickNames.{num_of, word_of, val_of, source_steps, all_flag, all_steps, AllSure, StandsAmong, source_code, none_is, some_is, nought_number, all_sure, among_sure, name_among, source_among, source_still, source_beside, source_is, contrary_holds, two_few, one_few, near_sum, stored_is, none_new, result_of, sum_few}
+use Rattle.lower_model.proofs.QuickNames.{num_of, word_of, val_of, source_steps, all_flag, all_steps, AllSure, StandsAmong, source_code, none_is, some_is, nought_number, all_sure, among_sure, name_among, source_among, source_still, source_beside, source_is, contrary_holds, two_few, one_few, near_sum, stored_is, none_new, result_of, sum_few, Words, WordFits, shift_word, one_sure}
 use Rattle.lower_model.proofs.Summing.{Summed, summed_in_turn, IsSource, anyway_ok}
-use Rattle.lower_model.proofs.QuickParts.{HolderFits, slot_fits, all_read, all_put, Taken, taken, stored_turns, Two, sum_stored, two_summed, set_code, AllUnboxed, name_got, all_unsure_ok, name_unboxed, summed_means, set_means, Parts, set_sorted}
+use Rattle.lower_model.proofs.QuickParts.{HolderFits, slot_fits, all_read, all_put, Taken, taken, stored_turns, Two, sum_stored, two_summed, set_code, AllUnboxed, name_got, all_unsure_ok, name_unboxed, summed_means, set_means, Parts, set_sorted, HolderTakes, takes_fits, words, words_fit, all_words, slot_takes}
 use Rattle.lower_model.proofs.Evaluating.{plainly_ok}
 
 module _ (p : Program) (deepest : Observer) (ks : List Kind) (F : List Frame) (b : Bases) (M n : ℕ) where
@@ -136,7 +136,7 @@ module _ (p : Program) (deepest : Observer) (ks : List Kind) (F : List Frame) (b
 
   -- one comparison of a name's number
   pub unsure_ok : (K : List Label) (k : Instructions) (i : Holder) (q : ℤ) (w u : ℕ) (l : Locals) (σ : State) → HolderFits p deepest ks F b M n i → length ks ≡ b.parameters → Fit p deepest ks F 0 u 0 l σ →
-      Goes (machine p deepest ks F) 3 (at ks [] K (laid b l) F (unsure (all_read p deepest ks F b M n i) q w k) (beside_state p deepest ks F σ)) (at ks (Bits (flag (shown_by (holder_value i σ) q w)) ∷ []) K (laid b l) F k (beside_state p deepest ks F σ))
+      Goes (machine p deepest ks F) 3 (at ks [] K (laid b l) F (unsure (all_read p deepest ks F b M n i) q w k) (beside_state p deepest ks F σ)) (at ks (Bits (flag (nat_lt w (shift_word (words l σ) q i))) ∷ []) K (laid b l) F k (beside_state p deepest ks F σ))
   unsure_ok K k i q w u l σ hk pk ft = then_goes (name_got p deepest ks F b M n _ _ _ i 0 u 0 l σ hk pk ft) (by_steps 2 refl)
 
   -- the machine goes on where a test holds, and elsewhere some labels further out
@@ -173,7 +173,7 @@ module _ (p : Program) (deepest : Observer) (ks : List Kind) (F : List Frame) (b
   SourceFits most (Constant z) = nat_le (unsigned_abs z) most ≡ true
 
   source_ok : (vs : List Cell) (K : List Label) (k : Instructions) → (m : ℕ) (s : Source) (t u w : ℕ) (l : Locals) (σ : State) → SourceFits m s → length ks ≡ b.parameters → Fit p deepest ks F t u w l σ →
-      Goes (machine p deepest ks F) (source_steps s) (at ks vs K (laid b l) F (source_pushed (layout p deepest ks F b M n) s k) (beside_state p deepest ks F σ)) (at ks (Bits (I64 (word_of s σ)) ∷ vs) K (laid b l) F k (beside_state p deepest ks F σ))
+      Goes (machine p deepest ks F) (source_steps s) (at ks vs K (laid b l) F (source_pushed (layout p deepest ks F b M n) s k) (beside_state p deepest ks F σ)) (at ks (Bits (I64 (word_of (words l σ) s)) ∷ vs) K (laid b l) F k (beside_state p deepest ks F σ))
   source_ok vs K k m (Standing i) t u w l σ h pk ft = name_got p deepest ks F b M n vs K k i t u w l σ h pk ft
   source_ok vs K k m (Constant z) t u w l σ h pk ft = stays
 
@@ -182,24 +182,25 @@ module _ (p : Program) (deepest : Observer) (ks : List Kind) (F : List Frame) (b
   source_unboxed m (Constant z) is hs h = h
 
   -- a source as an operand
-  pub record Operand (s : Source) (σ : State) (most : ℕ) : Type 0 where
+  pub record Operand (W : Words) (s : Source) (σ : State) (most : ℕ) : Type 0 where
     pub number : AnyNumber
     pub num : num_of s σ ≡ Ok number
     pub few : unsigned_abs number.number ≤ most
-    pub words : word_of s σ ≡ number_word number
+    pub words : word_of W s ≡ number_word number
     pub side : numeric_side (val_of s σ) ≡ Some (Ok number.number)
 
-  pub operand : (s : Source) (is : List Holder) (c w : ℕ) (σ : State) → w ≤ c + c → SourceFits c s → c ≤ 2 ^ 53 → StandsAmong s is → AllSure σ (pos c) w is → Operand s σ c
-  operand (Standing i) is c w σ hw hf hc h a =
-      let s = among_sure i is (pos c) w σ h a in
+  pub operand : (W : Words) (s : Source) (is : List Holder) (c w : ℕ) (σ : State) → w ≤ c + c → SourceFits c s → c ≤ 2 ^ 53 → StandsAmong s is → AllSure W σ (pos c) w is → Operand W s σ c
+  operand W (Standing i) is c w σ hw hf hc h a =
+      let both = among_sure W i is (pos c) w σ h a in
+      let s = both.0 in
       record {
         number = s.number;
         num = own_number p deepest ks F b M (holder_value i σ) s.number s.value;
         few = let x = s.sum in let y = s.few in grind (arith, ints, x, y, hw);
-        words = ap bare s.value ∙ bare_number s.number;
+        words = both.1 ∙ (ap bare s.value ∙ bare_number s.number);
         side = ap numeric_side s.value;
       }
-  operand (Constant z) is c w σ hw hf hc h a =
+  operand W (Constant z) is c w σ hw hf hc h a =
       let le = leb-true (unsigned_abs z) c hf in
       let nz = or_zero (number_of z) in
       let e : nz.number ≡ z = nought_number z (le-leb (unsigned_abs z) (2 ^ 53) (omega (arith, le, hc))) in
@@ -306,14 +307,14 @@ module _ (p : Program) (deepest : Observer) (ks : List Kind) (F : List Frame) (b
     leaves_if true = (2, omega arith, by_steps 2 refl)
     leaves_if false = (1, omega arith, by_steps 1 refl)
 
-    fast_way : (q : Pair) → PairIs e q → AllSure σ (pos (2 ^ 53)) (2 ^ 54) (pair_names q) →
+    fast_way : (q : Pair) → PairIs e q → AllSure (words l σ) σ (pos (2 ^ 53)) (2 ^ 54) (pair_names q) →
         Reached p deepest ks F b M (work_of e + 17) σ.turns (at ks [] PK (laid b l) F (pair_left (layout p deepest ks F b M n) q (suc out) NoMore) PS) (Left out k K u l) (Away p deepest ks F b d K) (test_meant p deepest ks F b M n e σ)
     fast_way q t a =
-        let o1 = operand q.left (pair_names q) (2 ^ 53) (2 ^ 54) σ (omega arith) t.left (omega arith) (source_among q.left (and_source q.right [])) a in
-        let o2 = operand q.right (pair_names q) (2 ^ 53) (2 ^ 54) σ (omega arith) t.right (omega arith) (source_beside q.right q.left (and_source q.right []) (source_among q.right [])) a in
+        let o1 = operand (words l σ) q.left (pair_names q) (2 ^ 53) (2 ^ 54) σ (omega arith) t.left (omega arith) (source_among q.left (and_source q.right [])) a in
+        let o2 = operand (words l σ) q.right (pair_names q) (2 ^ 53) (2 ^ 54) σ (omega arith) t.right (omega arith) (source_beside q.right q.left (and_source q.right []) (source_among q.right [])) a in
         let z = holds q.op (int_cmp o1.number.number o2.number.number) in
         let c : comparison (val_of q.left σ) (val_of q.right σ) q.op ≡ Ok z = ap₂ (λ x y. held q.op (order_by (val_of q.left σ) (val_of q.right σ) x y)) o1.side o2.side in
-        let f : compare_at w64 (relation (contrary q.op)) (word_of q.left σ) (word_of q.right σ) ≡ not z =
+        let f : compare_at w64 (relation (contrary q.op)) (word_of (words l σ) q.left) (word_of (words l σ) q.right) ≡ not z =
         ap₂ (compare_at w64 (relation (contrary q.op))) o1.words o2.words ∙ (words_compared o1.number o2.number (contrary q.op) ∙ contrary_holds q.op (int_cmp o1.number.number o2.number.number)) in
         let w = leaves_if z in
         let w1 = w.1 in
@@ -332,10 +333,10 @@ module _ (p : Program) (deepest : Observer) (ks : List Kind) (F : List Frame) (b
         record { number = pos (length σ.shared.inner.fields); in_range = subst T (sym (le-leb (length σ.shared.inner.fields) (2 ^ 53) (omega (arith, few)))) tt }
 
     -- both numbers are there, and are compared
-    count_way : (q : Counted) → CountedIs e q → (m : AnyNumber) → holder_value q.name σ ≡ value.Num m.number →
+    count_way : (q : Counted) → CountedIs e q → (m : AnyNumber) → holder_value q.name σ ≡ value.Num m.number → words l σ q.name ≡ bare (holder_value q.name σ) →
         Reached p deepest ks F b M (work_of e + 17) σ.turns (at ks [] PK (laid b l) F (counted_left (layout p deepest ks F b M n) q (suc out) NoMore) PS) (Left out k K u l) (Away p deepest ks F b d K) (test_meant p deepest ks F b M n e σ)
     unfolding fields_number
-    count_way q t m ev =
+    count_way q t m ev ew =
         let mach = machine p deepest ks F in
         let f = fields_number in
         let z = holds q.op (int_cmp m.number f.number) in
@@ -347,36 +348,37 @@ module _ (p : Program) (deepest : Observer) (ks : List Kind) (F : List Frame) (b
         let c : compare_at w64 (relation (contrary q.op)) (number_word m) (number_word f) ≡ not z = words_compared m f (contrary q.op) ∙ contrary_holds q.op (int_cmp m.number f.number) in
         subst (λ o. Reached p deepest ks F b M (work_of e + 17) σ.turns (at ks [] PK (laid b l) F (counted_left (layout p deepest ks F b M n) q (suc out) NoMore) PS) (Left out k K u l) (Away p deepest ks F b d K) o) (sym (t.means σ m ev))
         (there mach M (work_of e + 17) (1 + (1 + (1 + (1 + w.0)))) _ _ z σ (Left out k K u l) (Away p deepest ks F b d K)
-        (then_goes (goes_to (name_got p deepest ks F b M n _ _ _ q.name 0 u 0 l σ t.kind s.parameters s.fit) (ap (λ g. at ks (Bits (I64 g) ∷ []) PK (laid b l) F (emit (I32Const (special_number Nf)) (ask_row row.GetSpecial (ask_row row.ToNum k2))) PS) (ap bare ev ∙ bare_number m)))
+        (then_goes (goes_to (name_got p deepest ks F b M n _ _ _ q.name 0 u 0 l σ t.kind s.parameters s.fit) (ap (λ g. at ks (Bits (I64 g) ∷ []) PK (laid b l) F (emit (I32Const (special_number Nf)) (ask_row row.GetSpecial (ask_row row.ToNum k2))) PS) (ew ∙ (ap bare ev ∙ bare_number m))))
         (then_goes (goes_to (row_called p deepest ks F row.GetSpecial (Nf, tt) (Bits (word.I32 (special_number Nf)) ∷ []) (x ∷ []) σ refl refl refl refl refl)
         (ap (λ τ. at ks (Held v ∷ (x ∷ [])) PK (laid b l) F (ask_row row.ToNum k2) (beside_state p deepest ks F τ)) (same_state σ v)))
         (then_goes (goes_to (ask_to_num p deepest ks F (x ∷ []) σ v) (ap (λ (o : Result AnyNumber Fault). at ks (reply (answer.Of sort.Number) o (x ∷ [])) PK (laid b l) F k2 (after_reply p deepest ks F o σ)) (own_number p deepest ks F b M v f refl)))
         (then_goes (goes_to (by_steps 1 refl) (ap (λ g. at ks (Bits (flag g) ∷ []) PK (laid b l) F (emit (BrIf (suc out)) NoMore) PS) c)) w.2)))) (omega (arith, w1))
         (record { next = l; comes = refl; starts = s; iterators = λ y. refl }))
 
-    count_chosen : (q : Counted) → CountedIs e q → (f : Bool) → compare_at w64 LeS (bare (holder_value q.name σ)) text_beside ≡ f → BareOf (holder_value q.name σ) →
+    count_chosen : (q : Counted) → CountedIs e q → (f : Bool) → compare_at w64 LeS (words l σ q.name) text_beside ≡ f → WordFits (words l σ q.name) (holder_value q.name σ) → BareOf (holder_value q.name σ) →
         Reached p deepest ks F b M (work_of e + 17) σ.turns (at ks [] PK (laid b l) F (cond (nat_eq (if f then 1 else 0) 0) (counted_left (layout p deepest ks F b M n) q (suc out) NoMore) pair_slow) PS) (Left out k K u l) (Away p deepest ks F b d K) (test_meant p deepest ks F b M n e σ)
-    count_chosen q t true eq is = slow_way
-    count_chosen q t false eq (IsBeside eb eh) = absurd (true≢false (sym (ap (λ y. compare_at w64 LeS y text_beside) eb) ∙ eq))
-    count_chosen q t false eq (IsNone ev eb eh) = absurd (true≢false (sym (ap (λ y. compare_at w64 LeS y text_beside) eb) ∙ eq))
-    count_chosen q t false eq (IsNumber m ev eb eh) = count_way q t m ev
+    count_chosen q t true eq wf is = slow_way
+    count_chosen q t false eq (inr ew) is = absurd (true≢false (sym (ap (λ y. compare_at w64 LeS y text_beside) ew) ∙ eq))
+    count_chosen q t false eq (inl ew) (IsBeside eb eh) = absurd (true≢false (sym (ap (λ y. compare_at w64 LeS y text_beside) (ew ∙ eb)) ∙ eq))
+    count_chosen q t false eq (inl ew) (IsNone ev eb eh) = absurd (true≢false (sym (ap (λ y. compare_at w64 LeS y text_beside) (ew ∙ eb)) ∙ eq))
+    count_chosen q t false eq (inl ew) (IsNumber m ev eb eh) = count_way q t m ev ew
 
     counted : (o : Option Counted) → counted_in e ≡ o → Reached p deepest ks F b M (work_of e + 24) σ.turns (at ks [] K (laid b l) F (left_unless_counted (layout p deepest ks F b M n) o e d out k) PS) (Left out k K u l) (Away p deepest ks F b d K) (test_meant p deepest ks F b M n e σ)
     counted None eq = within (machine p deepest ks F) M (work_of e + 16) (work_of e + 24) σ.turns _ (Left out k K u l) (Away p deepest ks F b d K) (test_meant p deepest ks F b M n e σ) (omega arith) (plain_ok e ok u d out k K l σ so rm ar s)
     counted (Some q) eq =
         let t = counted_is e q eq (and_parts (is_tested (form_of [] e)) (sorted (context p deepest ks F b M n) [] e) so).1 in
-        let f = compare_at w64 LeS (bare (holder_value q.name σ)) text_beside in
+        let f = compare_at w64 LeS (words l σ q.name) text_beside in
         first (machine p deepest ks F) M 3 (work_of e + 17) (work_of e + 24) σ.turns _ _ (Left out k K u l) (Away p deepest ks F b d K) (test_meant p deepest ks F b M n e σ)
         (then_goes (name_got p deepest ks F b M n _ _ _ q.name 0 u 0 l σ t.kind s.parameters s.fit) (then_goes (by_steps 1 refl) (chooses pair_slow (counted_left (layout p deepest ks F b M n) q (suc out) NoMore) (if f then 1 else 0)))) (omega arith)
-        (count_chosen q t f refl (bare_is (holder_value q.name σ)))
+        (count_chosen q t f refl (words_fit p deepest ks F b M n q.name 0 u 0 l σ t.kind s.fit) (bare_is (holder_value q.name σ)))
 
     pub left_unless_pair_ok : Reached p deepest ks F b M (work_of e + 24) σ.turns (at ks [] K (laid b l) F (left_unless_pair (layout p deepest ks F b M n) (pair_in e) e d out k) PS) (Left out k K u l) (Away p deepest ks F b d K) (test_meant p deepest ks F b M n e σ)
     left_unless_pair_ok = by (pair_in e) refl
       where
-        chosen : (q : Pair) → PairIs e q → (f : Bool) → all_flag σ (pos (2 ^ 53)) (2 ^ 54) (pair_names q) ≡ f →
+        chosen : (q : Pair) → PairIs e q → (f : Bool) → all_flag (words l σ) (pos (2 ^ 53)) (2 ^ 54) (pair_names q) ≡ f →
             Reached p deepest ks F b M (work_of e + 17) σ.turns (at ks [] PK (laid b l) F (cond (nat_eq (if f then 1 else 0) 0) (pair_left (layout p deepest ks F b M n) q (suc out) NoMore) pair_slow) PS) (Left out k K u l) (Away p deepest ks F b d K) (test_meant p deepest ks F b M n e σ)
         chosen q t true eq = slow_way
-        chosen q t false eq = fast_way q t (all_sure (pair_names q) (pos (2 ^ 53)) (2 ^ 54) σ (omega arith) (omega arith) eq)
+        chosen q t false eq = fast_way q t (all_sure (words l σ) (pair_names q) (pos (2 ^ 53)) (2 ^ 54) σ (all_words p deepest ks F b M n (pair_names q) 0 u 0 l σ (pair_unboxed e q t) s.fit) (omega arith) (omega arith) eq)
 
         by : (o : Option Pair) → pair_in e ≡ o → Reached p deepest ks F b M (work_of e + 24) σ.turns (at ks [] K (laid b l) F (left_unless_pair (layout p deepest ks F b M n) o e d out k) PS) (Left out k K u l) (Away p deepest ks F b d K) (test_meant p deepest ks F b M n e σ)
         by None eq = counted (counted_in e) refl
@@ -385,8 +387,8 @@ module _ (p : Program) (deepest : Observer) (ks : List Kind) (F : List Frame) (b
             let un = source_unboxed (2 ^ 53) q.left (and_source q.right []) t.left (source_unboxed (2 ^ 53) q.right [] t.right tt) in
             let fw = two_few q.left q.right in
             first (machine p deepest ks F) M (all_steps (pair_names q) + 1) (work_of e + 17) (work_of e + 24) σ.turns _ _ (Left out k K u l) (Away p deepest ks F b d K) (test_meant p deepest ks F b M n e σ)
-            (then_goes (all_unsure_ok p deepest ks F b M n _ _ (pair_names q) (pos (2 ^ 53)) (2 ^ 54) 0 u 0 l σ un s.parameters s.fit) (chooses pair_slow (pair_left (layout p deepest ks F b M n) q (suc out) NoMore) (if all_flag σ (pos (2 ^ 53)) (2 ^ 54) (pair_names q) then 1 else 0))) (omega (arith, fw))
-            (chosen q t (all_flag σ (pos (2 ^ 53)) (2 ^ 54) (pair_names q)) refl)
+            (then_goes (all_unsure_ok p deepest ks F b M n _ _ (pair_names q) (pos (2 ^ 53)) (2 ^ 54) 0 u 0 l σ un s.parameters s.fit) (chooses pair_slow (pair_left (layout p deepest ks F b M n) q (suc out) NoMore) (if all_flag (words l σ) (pos (2 ^ 53)) (2 ^ 54) (pair_names q) then 1 else 0))) (omega (arith, fw))
+            (chosen q t (all_flag (words l σ) (pos (2 ^ 53)) (2 ^ 54) (pair_names q)) refl)
 
   -- any test
   pub left_unless_ok : (e : Code) → ExprOk p deepest ks F b M n e → (u d out : ℕ) (k : Instructions) (K : List Label) (l : Locals) (σ : State) → test_sorted (context p deepest ks F b M n) e ≡ true → room e ≤ b.temporaries → arrays_in e ≤ b.arrays → Starts p deepest ks F b M n u K l σ →
@@ -402,14 +404,14 @@ module _ (p : Program) (deepest : Observer) (ks : List Kind) (F : List Frame) (b
       slow : Instructions
       slow = tested (layout p deepest ks F b M n) [] [] e zero zero (suc d) (emit (Test I32 Eqz) (emit (BrIf (suc out)) NoMore))
 
-      chosen : (q : Within) → TestIs e q → (f : Bool) → shown_by (holder_value q.name σ) q.shift q.width ≡ f →
+      chosen : (q : Within) → TestIs e q → (f : Bool) → nat_lt q.width (shift_word (words l σ) q.shift q.name) ≡ f →
           Reached p deepest ks F b M (work_of e + 17) σ.turns (at ks [] K1 (laid b l) F (cond (nat_eq (if f then 1 else 0) 0) NoMore slow) S) (Left out k K u l) (Away p deepest ks F b d K) (test_meant p deepest ks F b M n e σ)
       chosen q t true eq =
           within (machine p deepest ks F) M ((work_of e + 16) + 1) (work_of e + 17) σ.turns _ (Left out k K u l) (Away p deepest ks F b d K) (test_meant p deepest ks F b M n e σ) (omega arith)
           (blocked p deepest ks F b M (work_of e + 16) σ.turns d k K _ (Left (suc out) NoMore K1 u l) (Left out k K u l) (test_meant p deepest ks F b M n e σ) (λ x τ c h. left_closes out u k K l x τ c h)
           (plain_ok e ok u (suc d) (suc out) NoMore K1 l σ so rm ar (starts_among p deepest ks F b M n u K K1 l σ refl s)))
       chosen q t false eq =
-          subst (λ o. Reached p deepest ks F b M (work_of e + 17) σ.turns (at ks [] K1 (laid b l) F NoMore S) (Left out k K u l) (Away p deepest ks F b d K) o) (sym (t.means σ (sure (holder_value q.name σ) q.shift q.width t.shift t.width eq)))
+          subst (λ o. Reached p deepest ks F b M (work_of e + 17) σ.turns (at ks [] K1 (laid b l) F NoMore S) (Left out k K u l) (Away p deepest ks F b d K) o) (sym (t.means σ (one_sure (words l σ q.name) (holder_value q.name σ) q.shift q.width (words_fit p deepest ks F b M n q.name 0 u 0 l σ t.kind s.fit) t.shift t.width (ltb-false q.width (shift_word (words l σ) q.shift q.name) eq)).0))
           (there (machine p deepest ks F) M (work_of e + 17) 1 _ _ true σ (Left out k K u l) (Away p deepest ks F b d K) closes (omega arith) (record { next = l; comes = refl; starts = s; iterators = λ y. refl }))
 
       by : (o : Option Within) → test_within e ≡ o → Reached p deepest ks F b M (work_of e + 24) σ.turns (at ks [] K (laid b l) F (left_unless (layout p deepest ks F b M n) o e d out k) S) (Left out k K u l) (Away p deepest ks F b d K) (test_meant p deepest ks F b M n e σ)
@@ -417,13 +419,13 @@ module _ (p : Program) (deepest : Observer) (ks : List Kind) (F : List Frame) (b
       by (Some q) eq =
           let t = test_is e q eq (and_parts (is_tested (form_of [] e)) (sorted (context p deepest ks F b M n) [] e) so).1 in
           first (machine p deepest ks F) M 4 (work_of e + 17) (work_of e + 24) σ.turns _ _ (Left out k K u l) (Away p deepest ks F b d K) (test_meant p deepest ks F b M n e σ)
-          (then_goes (unsure_ok _ _ q.name q.shift q.width u l σ t.kind s.parameters s.fit) (chooses slow NoMore (if shown_by (holder_value q.name σ) q.shift q.width then 1 else 0))) (omega arith)
-          (chosen q t (shown_by (holder_value q.name σ) q.shift q.width) refl)
+          (then_goes (unsure_ok _ _ q.name q.shift q.width u l σ t.kind s.parameters s.fit) (chooses slow NoMore (if nat_lt q.width (shift_word (words l σ) q.shift q.name) then 1 else 0))) (omega arith)
+          (chosen q t (nat_lt q.width (shift_word (words l σ) q.shift q.name)) refl)
 
   -- Sums.
 
   pub record SumIs (e : Code) (s : Sum) : Type 0 where
-    pub kind : HolderFits p deepest ks F b M n s.target
+    pub kind : HolderTakes p deepest ks F b M n s.target
     pub left : SourceFits (2 ^ 52) s.left
     pub right : SourceFits (2 ^ 52) s.right
     pub sum : is_sum s.op ≡ true
@@ -551,7 +553,8 @@ module _ (p : Program) (deepest : Observer) (ks : List Kind) (F : List Frame) (b
       let own = is_slot ctx (holder_slot i) in
       let tk = takes ctx (holder_slot i) None (form_of gs (Bound true zero)) && sorted ctx gs (Bound true zero) in
       let w = and_parts (own && tk) (sorted ctx gs (Bound true (suc zero))) t1.1 in
-      record { kind = slot_fits p deepest ks F b M n i (and_parts own tk w.0).0; first_one = s3.0; second = t3.0; fits_second = (and_parts (fits_sort (form_of fs z) sort.Number) true t2.0).0 }
+      let ot = and_parts own tk w.0 in
+      record { kind = slot_takes p deepest ks F b M n i None (form_of gs (Bound true zero)) ot.0 (and_parts (takes ctx (holder_slot i) None (form_of gs (Bound true zero))) _ ot.1).0; first_one = s3.0; second = t3.0; fits_second = (and_parts (fits_sort (form_of fs z) sort.Number) true t2.0).0 }
 
   old_is : (i : Holder) (o : Arithmetic) (a : Code) (z : ℤ) (s : Sum) → sum_of i o (source_in a) (Some (Constant z)) ≡ Some s → sorted (context p deepest ks F b M n) [] (old_code i o a (Number z)) ≡ true → SumIs (old_code i o a (Number z)) s
   old_is i o a z s eq so = by (source_in a) refl eq
@@ -619,20 +622,20 @@ module _ (p : Program) (deepest : Observer) (ks : List Kind) (F : List Frame) (b
   sum_is e s eq so = none_is eq
 
   -- the machine adds
-  pub both_added : (K : List Label) (k : Instructions) (o : Arithmetic) (a e : Source) (y : AnyNumber) (t u w : ℕ) (l : Locals) (σ : State) → SourceFits (2 ^ 52) a → SourceFits (2 ^ 52) e → length ks ≡ b.parameters → Fit p deepest ks F t u w l σ → binary_at w64 (sum_op o) (word_of a σ) (word_of e σ) ≡ Ok (number_word y) →
+  pub both_added : (K : List Label) (k : Instructions) (o : Arithmetic) (a e : Source) (y : AnyNumber) (t u w : ℕ) (l : Locals) (σ : State) → SourceFits (2 ^ 52) a → SourceFits (2 ^ 52) e → length ks ≡ b.parameters → Fit p deepest ks F t u w l σ → binary_at w64 (sum_op o) (word_of (words l σ) a) (word_of (words l σ) e) ≡ Ok (number_word y) →
       Goes (machine p deepest ks F) (source_steps a + (source_steps e + 1)) (at ks [] K (laid b l) F (source_pushed (layout p deepest ks F b M n) a (source_pushed (layout p deepest ks F b M n) e (emit (Binary wide.I64 (sum_op o)) k))) (beside_state p deepest ks F σ)) (at ks (Bits (I64 (number_word y)) ∷ []) K (laid b l) F k (beside_state p deepest ks F σ))
   both_added K k o a e y t u w l σ f1 f2 pk ft q =
       then_goes (source_ok _ _ _ (2 ^ 52) a t u w l σ f1 pk ft) (then_goes (source_ok _ _ _ (2 ^ 52) e t u w l σ f2 pk ft)
       (by_steps 1 (ap (λ r. with_operands (push_result [] (Some (given_by I64 r))) ks K (laid b l) F k (beside_state p deepest ks F σ)) q)))
 
   summed_ok : (s : Sum) (y : AnyNumber) (K : List Label) (k : Instructions) (u : ℕ) (l : Locals) (σ : State) → SourceFits (2 ^ 52) s.left → SourceFits (2 ^ 52) s.right → length ks ≡ b.parameters → Fit p deepest ks F 0 u 0 l σ → (t : Taken p deepest ks F b M n s.target y u K k l σ) →
-      binary_at w64 (sum_op s.op) (word_of s.left σ) (word_of s.right σ) ≡ Ok (number_word y) →
+      binary_at w64 (sum_op s.op) (word_of (words l σ) s.left) (word_of (words l σ) s.right) ≡ Ok (number_word y) →
       Goes (machine p deepest ks F) ((source_steps s.left + (source_steps s.right + 1)) + 1) (at ks [] K (laid b l) F (summed (layout p deepest ks F b M n) s k) (beside_state p deepest ks F σ)) (at ks [] K (laid b t.next) F k (beside_state p deepest ks F (stored_in (holder_slot s.target) (value.Num y.number) σ)))
   summed_ok s y K k u l σ f1 f2 pk ft t e =
       then_goes (both_added K (emit (all_put p deepest ks F b M n s.target) k) s.op s.left s.right y 0 u 0 l σ f1 f2 pk ft e) t.goes
 
   pub sum_unboxed : (e : Code) (s : Sum) → SumIs e s → AllUnboxed p deepest ks F b M n (sum_names s)
-  sum_unboxed e s t = name_unboxed p deepest ks F b M n s.target (and_source s.left (and_source s.right [])) t.kind (source_unboxed (2 ^ 52) s.left (and_source s.right []) t.left (source_unboxed (2 ^ 52) s.right [] t.right tt))
+  sum_unboxed e s t = name_unboxed p deepest ks F b M n s.target (and_source s.left (and_source s.right [])) (takes_fits p deepest ks F b M n s.target t.kind) (source_unboxed (2 ^ 52) s.left (and_source s.right []) t.left (source_unboxed (2 ^ 52) s.right [] t.right tt))
 
   -- the same, one after the other
   summed_again : (i : Holder) (o : Arithmetic) (σ : State) (r1 r2 : Result AnyNumber Fault) → two_summed i o σ r1 r2 ≡ go_on (summed_in_turn p deepest ks F b M n i o r1 r2 σ) (λ y. give Normal)
@@ -647,7 +650,7 @@ module _ (p : Program) (deepest : Observer) (ks : List Kind) (F : List Frame) (b
   -- what is done once its place is noted
   eval_rest : (exprs : (x : Code) → ExprOk p deepest ks F b M n x) (e : Code) (r lo : Bool) (u d bk ct : ℕ) (k : Instructions) (K : List Label) (l : Locals) (σ : State) →
       step_sorted (context p deepest ks F b M n) r lo (Eval e) ≡ true → step_room (Eval e) ≤ b.temporaries → step_arrays (Eval e) ≤ b.arrays → Starts p deepest ks F b M n u K l σ →
-      Reached p deepest ks F b M (work_of e + 110) σ.turns (at ks [] K (laid b l) F (quickly_dropped (layout p deepest ks F b M n) (sum_in e) e d k) (beside_state p deepest ks F σ)) (StepDone p deepest ks F b M n lo u bk ct k K l) (Away p deepest ks F b d K) (plain_meant p deepest ks F b M n (Eval e) σ)
+      Reached p deepest ks F b M (work_of e + 118) σ.turns (at ks [] K (laid b l) F (quickly_dropped (layout p deepest ks F b M n) (sum_in e) e d k) (beside_state p deepest ks F σ)) (StepDone p deepest ks F b M n lo u bk ct k K l) (Away p deepest ks F b d K) (plain_meant p deepest ks F b M n (Eval e) σ)
   unfolding step_sorted steps_sorted
   eval_rest exprs e r lo u d bk ct k K l σ so rm ar s = by (sum_in e) refl
     where
@@ -666,14 +669,14 @@ module _ (p : Program) (deepest : Observer) (ks : List Kind) (F : List Frame) (b
       fast : Sum → Instructions
       fast q = summed (layout p deepest ks F b M n) q NoMore
 
-      sums : (q : Sum) → SumIs e q → AllSure σ (pos (2 ^ 52)) (2 ^ 53) (sum_names q) →
+      sums : (q : Sum) → SumIs e q → AllSure (words l σ) σ (pos (2 ^ 52)) (2 ^ 53) (sum_names q) →
           Reached p deepest ks F b M (work_of e + 10) σ.turns (at ks [] K1 (laid b l) F (fast q) S) (StepDone p deepest ks F b M n lo u bk ct k K l) (Away p deepest ks F b d K) (plain_meant p deepest ks F b M n (Eval e) σ)
       sums q t w =
           let is2 = and_source q.right [] in
           let is1 = and_source q.left is2 in
-          let o1 = operand q.left (sum_names q) (2 ^ 52) (2 ^ 53) σ (omega arith) t.left (omega arith) (source_still q.left q.target is1 (source_among q.left is2)) w in
-          let o2 = operand q.right (sum_names q) (2 ^ 52) (2 ^ 53) σ (omega arith) t.right (omega arith) (source_still q.right q.target is1 (source_beside q.right q.left is2 (source_among q.right []))) w in
-          let own = among_sure q.target (sum_names q) (pos (2 ^ 52)) (2 ^ 53) σ (name_among q.target is1) w in
+          let o1 = operand (words l σ) q.left (sum_names q) (2 ^ 52) (2 ^ 53) σ (omega arith) t.left (omega arith) (source_still q.left q.target is1 (source_among q.left is2)) w in
+          let o2 = operand (words l σ) q.right (sum_names q) (2 ^ 52) (2 ^ 53) σ (omega arith) t.right (omega arith) (source_still q.right q.target is1 (source_beside q.right q.left is2 (source_among q.right []))) w in
+          let own = (among_sure (words l σ) q.target (sum_names q) (pos (2 ^ 52)) (2 ^ 53) σ (name_among q.target is1) w).0 in
           let r = result_of q.op o1.number o2.number t.sum o1.few o2.few in
           let y = r.number in
           let σ1 = stored_in (holder_slot q.target) (value.Num y.number) σ in
@@ -688,39 +691,41 @@ module _ (p : Program) (deepest : Observer) (ks : List Kind) (F : List Frame) (b
           (record { next = to.next; comes = refl; starts = starts_after p deepest ks F b M n u K K l to.next σ σ1 s refl (let e = tk in omega (arith, e)) to.iterators to.fit; iterators = to.iterators; flows = flows_on lo })))
 
       -- in all cases
-      anyway : (a : Sum) → SumIs e a → Reached p deepest ks F b M (work_of e + 90) σ.turns (at ks [] K1 (laid b l) F (slow a) S) (StepDone p deepest ks F b M n lo u bk ct k K l) (Away p deepest ks F b d K) (plain_meant p deepest ks F b M n (Eval e) σ)
+      anyway : (a : Sum) → SumIs e a → Reached p deepest ks F b M (work_of e + 98) σ.turns (at ks [] K1 (laid b l) F (slow a) S) (StepDone p deepest ks F b M n lo u bk ct k K l) (Away p deepest ks F b d K) (plain_meant p deepest ks F b M n (Eval e) σ)
       anyway a t =
           let Q1 = Away p deepest ks F b (suc d) K1 in
           let P0 : AnyNumber → State → Conf → Type 0 = λ w. Summed p deepest ks F b M n u NoMore K1 l in
           let P1 = StepDone p deepest ks F b M n lo u (suc bk) (suc ct) NoMore K1 l in
           let whole = t.whole σ ∙ summed_again a.target a.op σ (num_of a.left σ) (num_of a.right σ) in
           let few = t.room in
-          within (machine p deepest ks F) M (80 + 1) (work_of e + 90) σ.turns _ (StepDone p deepest ks F b M n lo u bk ct k K l) (Away p deepest ks F b d K) (plain_meant p deepest ks F b M n (Eval e) σ) (omega arith)
-          (blocked p deepest ks F b M 80 σ.turns d k K _ P1 (StepDone p deepest ks F b M n lo u bk ct k K l) (plain_meant p deepest ks F b M n (Eval e) σ) (λ f τ c h. block_ends p deepest ks F b M n lo u bk ct k K l f τ c h)
-          (subst (λ o. Reached p deepest ks F b M 80 σ.turns (at ks [] K1 (laid b l) F (slow a) S) P1 Q1 o) (sym whole)
-          (then_on (machine p deepest ks F) M 80 0 80 σ.turns _ P0 P1 Q1 (summed_in_turn p deepest ks F b M n a.target a.op (num_of a.left σ) (num_of a.right σ) σ) _ (omega arith)
+          within (machine p deepest ks F) M (88 + 1) (work_of e + 98) σ.turns _ (StepDone p deepest ks F b M n lo u bk ct k K l) (Away p deepest ks F b d K) (plain_meant p deepest ks F b M n (Eval e) σ) (omega arith)
+          (blocked p deepest ks F b M 88 σ.turns d k K _ P1 (StepDone p deepest ks F b M n lo u bk ct k K l) (plain_meant p deepest ks F b M n (Eval e) σ) (λ f τ c h. block_ends p deepest ks F b M n lo u bk ct k K l f τ c h)
+          (subst (λ o. Reached p deepest ks F b M 88 σ.turns (at ks [] K1 (laid b l) F (slow a) S) P1 Q1 o) (sym whole)
+          (then_on (machine p deepest ks F) M 88 0 88 σ.turns _ P0 P1 Q1 (summed_in_turn p deepest ks F b M n a.target a.op (num_of a.left σ) (num_of a.right σ) σ) _ (omega arith)
           (anyway_ok p deepest ks F b M n a u (suc d) NoMore K1 l σ t.sum t.kind s.parameters (near_source a.left t.left) (near_source a.right t.right) (omega (arith, rm, few)) s.fit)
           (λ w τ c le h.
           there (machine p deepest ks F) M 0 0 c c Normal τ P1 Q1 stays (omega arith)
           (record { next = h.next; comes = h.comes; starts = starts_after p deepest ks F b M n u K K1 l h.next σ τ s refl le h.iterators h.fit; iterators = h.iterators; flows = flows_on lo })))))
 
-      chosen : (a : Sum) → SumIs e a → (f : Bool) → all_flag σ (pos (2 ^ 52)) (2 ^ 53) (sum_names a) ≡ f →
-          Reached p deepest ks F b M (work_of e + 90) σ.turns (at ks [] K1 (laid b l) F (cond (nat_eq (if f then 1 else 0) 0) (fast a) (slow a)) S) (StepDone p deepest ks F b M n lo u bk ct k K l) (Away p deepest ks F b d K) (plain_meant p deepest ks F b M n (Eval e) σ)
+      chosen : (a : Sum) → SumIs e a → (f : Bool) → all_flag (words l σ) (pos (2 ^ 52)) (2 ^ 53) (sum_names a) ≡ f →
+          Reached p deepest ks F b M (work_of e + 98) σ.turns (at ks [] K1 (laid b l) F (cond (nat_eq (if f then 1 else 0) 0) (fast a) (slow a)) S) (StepDone p deepest ks F b M n lo u bk ct k K l) (Away p deepest ks F b d K) (plain_meant p deepest ks F b M n (Eval e) σ)
       chosen a t true eq = anyway a t
-      chosen a t false eq = within (machine p deepest ks F) M (work_of e + 10) (work_of e + 90) σ.turns _ (StepDone p deepest ks F b M n lo u bk ct k K l) (Away p deepest ks F b d K) (plain_meant p deepest ks F b M n (Eval e) σ) (omega arith) (sums a t (all_sure (sum_names a) (pos (2 ^ 52)) (2 ^ 53) σ (omega arith) (omega arith) eq))
+      chosen a t false eq = within (machine p deepest ks F) M (work_of e + 10) (work_of e + 98) σ.turns _ (StepDone p deepest ks F b M n lo u bk ct k K l) (Away p deepest ks F b d K) (plain_meant p deepest ks F b M n (Eval e) σ) (omega arith) (sums a t (all_sure (words l σ) (sum_names a) (pos (2 ^ 52)) (2 ^ 53) σ (all_words p deepest ks F b M n (sum_names a) 0 u 0 l σ (sum_unboxed e a t) s.fit) (omega arith) (omega arith) eq))
 
-      by : (o : Option Sum) → sum_in e ≡ o → Reached p deepest ks F b M (work_of e + 110) σ.turns (at ks [] K (laid b l) F (quickly_dropped (layout p deepest ks F b M n) o e d k) S) (StepDone p deepest ks F b M n lo u bk ct k K l) (Away p deepest ks F b d K) (plain_meant p deepest ks F b M n (Eval e) σ)
-      by None eq = plainly_ok p deepest ks F b M n exprs lo u d bk ct k K l σ s (update_in e) e refl srt rm ar
+      by : (o : Option Sum) → sum_in e ≡ o → Reached p deepest ks F b M (work_of e + 118) σ.turns (at ks [] K (laid b l) F (quickly_dropped (layout p deepest ks F b M n) o e d k) S) (StepDone p deepest ks F b M n lo u bk ct k K l) (Away p deepest ks F b d K) (plain_meant p deepest ks F b M n (Eval e) σ)
+      by None eq =
+          within (machine p deepest ks F) M (work_of e + 110) (work_of e + 118) σ.turns _ (StepDone p deepest ks F b M n lo u bk ct k K l) (Away p deepest ks F b d K) (plain_meant p deepest ks F b M n (Eval e) σ) (omega arith)
+          (plainly_ok p deepest ks F b M n exprs lo u d bk ct k K l σ s (update_in e) e refl srt rm ar)
       by (Some a) eq =
           let t = sum_is e a eq srt in
           let fw = sum_few a in
-          let un = name_unboxed p deepest ks F b M n a.target (and_source a.left (and_source a.right [])) t.kind (source_unboxed (2 ^ 52) a.left (and_source a.right []) t.left (source_unboxed (2 ^ 52) a.right [] t.right tt)) in
-          first (machine p deepest ks F) M (all_steps (sum_names a) + 1) (work_of e + 90) (work_of e + 110) σ.turns _ _ (StepDone p deepest ks F b M n lo u bk ct k K l) (Away p deepest ks F b d K) (plain_meant p deepest ks F b M n (Eval e) σ)
-          (then_goes (all_unsure_ok p deepest ks F b M n _ _ (sum_names a) (pos (2 ^ 52)) (2 ^ 53) 0 u 0 l σ un s.parameters s.fit) (chooses (slow a) (fast a) (if all_flag σ (pos (2 ^ 52)) (2 ^ 53) (sum_names a) then 1 else 0))) (omega (arith, fw))
-          (chosen a t (all_flag σ (pos (2 ^ 52)) (2 ^ 53) (sum_names a)) refl)
+          let un = name_unboxed p deepest ks F b M n a.target (and_source a.left (and_source a.right [])) (takes_fits p deepest ks F b M n a.target t.kind) (source_unboxed (2 ^ 52) a.left (and_source a.right []) t.left (source_unboxed (2 ^ 52) a.right [] t.right tt)) in
+          first (machine p deepest ks F) M (all_steps (sum_names a) + 1) (work_of e + 98) (work_of e + 118) σ.turns _ _ (StepDone p deepest ks F b M n lo u bk ct k K l) (Away p deepest ks F b d K) (plain_meant p deepest ks F b M n (Eval e) σ)
+          (then_goes (all_unsure_ok p deepest ks F b M n _ _ (sum_names a) (pos (2 ^ 52)) (2 ^ 53) 0 u 0 l σ un s.parameters s.fit) (chooses (slow a) (fast a) (if all_flag (words l σ) (pos (2 ^ 52)) (2 ^ 53) (sum_names a) then 1 else 0))) (omega (arith, fw))
+          (chosen a t (all_flag (words l σ) (pos (2 ^ 52)) (2 ^ 53) (sum_names a)) refl)
 
   pub eval_step : (exprs : (x : Code) → ExprOk p deepest ks F b M n x) (e : Code) → StepOk p deepest ks F b M n (Eval e)
   unfolding step_emitted steps_emitted step_noted steps_noted
   eval_step exprs e r lo u d bk ct k K l σ so rm it ar wk s =
-      begun_step p deepest ks F b M n _ (work_of e + 110) (120 + work_of e) u K l σ (StepDone p deepest ks F b M n lo u bk ct k K l) (Away p deepest ks F b d K) (plain_meant p deepest ks F b M n (Eval e)) (omega arith) s
+      begun_step p deepest ks F b M n _ (work_of e + 118) (120 + work_of e) u K l σ (StepDone p deepest ks F b M n lo u bk ct k K l) (Away p deepest ks F b d K) (plain_meant p deepest ks F b M n (Eval e)) (omega arith) s
       (λ τ s1. eval_rest exprs e r lo u d bk ct k K l τ so rm ar s1)

@@ -291,7 +291,7 @@ module _ (p : Program) (deepest : Observer) (ks : List Kind) (F : List Frame) (b
   get_global i v fs env ts st t u w d k K l σ so us rm ar rd =
       let kinds = kinds_of p.globals in
       let x = global_value i σ in
-      there (machine p deepest ks F) M 12 4 _ _ x σ (Done p deepest ks F b M n v (Get (Global false i)) fs env ts st t u w k K l σ) (Away p deepest ks F b d K)
+      there (machine p deepest ks F) M 18 4 _ _ x σ (Done p deepest ks F b M n v (Get (Global false i)) fs env ts st t u w k K l σ) (Away p deepest ks F b d K)
       (copied_global p deepest ks F b l (NameHand i) t x σ (kind_below kinds i Boxed so) (omega (arith, rm)) (ap (λ c. name_hand c (suc (suc (arrays_before kinds i))) x) (kind_found kinds i Boxed so)) (ap is_owned (rd.fit.free t (omega arith)))) (omega arith)
       (put_done p deepest ks F b M n (Get (Global false i)) v fs env ts st t u w k K l l σ σ x _ rd.below (same_self ts t w l) (λ j q. refl) rd.kept refl tt (put_value p deepest ks F b M t u w k K l x σ rd.fit))
 
@@ -301,6 +301,6 @@ module _ (p : Program) (deepest : Observer) (ks : List Kind) (F : List Frame) (b
       let x = local_value i σ in
       let lt = kind_below ks i Boxed so in
       let pk = rd.parameters in
-      there (machine p deepest ks F) M 12 4 _ _ x σ (Done p deepest ks F b M n v (Get (Parameter false i)) fs env ts st t u w k K l σ) (Away p deepest ks F b d K)
+      there (machine p deepest ks F) M 18 4 _ _ x σ (Done p deepest ks F b M n v (Get (Parameter false i)) fs env ts st t u w k K l σ) (Away p deepest ks F b d K)
       (copied_local p deepest ks F b l (Param i) t x σ (omega (arith, lt, pk)) (omega (arith, rm)) (λ e. omega (arith, e, lt, pk)) (rd.fit.params i Boxed so) (ap is_owned (rd.fit.free t (omega arith)))) (omega arith)
       (put_done p deepest ks F b M n (Get (Parameter false i)) v fs env ts st t u w k K l l σ σ x _ rd.below (same_self ts t w l) (λ j q. refl) rd.kept refl tt (put_value p deepest ks F b M t u w k K l x σ rd.fit))

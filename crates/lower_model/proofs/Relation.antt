@@ -1,6 +1,6 @@
 -- What a function's locals hold beside a script's state: parameters, temporaries in use and free ones, iterators, arrays of calls; what stands in a temporary, by its form;
 -- what is kept; how a function is left.
-use Rattle.std.proofs.Common.{◌≡◌, ◌≢◌, ◌⊎◌, inl, inr, ℕ, zero, suc, ◌+◌, ◌<◌, ◌≤◌, true, false, List, [], ◌∷◌, length, None, refl, sym, ap, ◌∙◌, arith, subst}
+use Rattle.std.proofs.Common.{◌≡◌, ◌≢◌, ◌⊎◌, inl, inr, ℕ, zero, suc, ◌+◌, ◌<◌, ◌≤◌, true, false, List, [], ◌∷◌, length, Option, None, refl, sym, ap, ◌∙◌, arith, subst}
 use Rattle.std.specs.Prelude.{get_or}
 use Rattle.std.proofs.lemmas.Bool.{cases_eq}
 use Rattle.awk_values.specs.declared.value.Value.{Value as AnyValue}
@@ -16,8 +16,8 @@ use Rattle.wasm_store.specs.declared.word.Word.TheVariants.{I32, I64}
 use Rattle.mid_program.specs.Mid.{Kind, Boxed, Unboxed, ArrayKind, Program, Declared, Routine, Form, PrimitiveAnswer, NumberOrText, OptionalNumber}
 use Rattle.mid_program.specs.MidMeaning.{Holds, Env}
 use Rattle.sem_scripts.specs.Names.{ArrayName, Numbered, Given}
-use Rattle.sem_scripts.specs.ScriptState.{State, Stop, TooDeep, Nexted, Exited, Returned, Local, Scalar, value_in_local, array_in_local, local_array}
-use Rattle.mid_program.specs.Sorted.{Held as Standing, There, Moved, Misused, has_kind, calls_of, kinds_of, arrays_among, context_of, is_array_place}
+use Rattle.sem_scripts.specs.ScriptState.{State, CallFrame, Stop, TooDeep, Nexted, Exited, Returned, Local, Scalar, value_in_local, array_in_local, local_array}
+use Rattle.mid_program.specs.Sorted.{Held as Standing, There, Moved, Misused, has_kind, lender_at, are_lenders, calls_of, kinds_of, arrays_among, context_of, is_array_place}
 use Rattle.lower_model.specs.Cells.{Cell, Bits, Held, IteratorOf, OwnedArray, LentArray, is_owned}
 use Rattle.host_imports.specs.Codes.{input_code, stream_code}
 use Rattle.lower_model.specs.Machine.{Conf, Deep, Label, Frame, Store, br, owner_waits}
@@ -27,7 +27,7 @@ use Rattle.lower_model.proofs.Observer.{Observer}
 use Rattle.lower_model.proofs.Regions.{upd_other, upd_all}
 use Rattle.lower_model.proofs.Locals.{Locals, Hand, Number as NumberAt, Array, with_at, laid}
 use Rattle.lower_model.proofs.Steps.{empty, unanswered}
-use Rattle.lower_model.proofs.State.{bare, beside, BareIs, AnswerIs, perhaps, answering, StoreLeft}
+use Rattle.lower_model.proofs.State.{BareIs, BareParameter, LentStays, parameter_stays, parameter_unowned, AnswerIs, perhaps, answering, StoreLeft}
 
 -- A local for a handle has one or -1, so do those for iterators and for arrays of calls.
 
@@ -186,10 +186,16 @@ module _ (p : Program) (deepest : Observer) (ks : List Kind) (F : List Frame) wh
   Meant (PrimitiveAnswer (answer.Of sort.Array)) x a σ = (array_at a σ ≡ x) × (is_array_place (context_of p ks) a ≡ true)
   Meant f x a σ = Unit {0}
 
-  abbrev pub ParamIs : Kind → Local → Cell → Type 0
-  ParamIs Boxed o c = c ≡ Held (value_in_local o)
-  ParamIs Unboxed o c = (c ≡ Bits (I64 (bare (value_in_local o)))) × (beside (value_in_local o) ≡ empty)
-  ParamIs ArrayKind o c = IsArray (array_in_local o) c
+  -- what a parameter has, by what lends at its place
+  abbrev pub ParamIs : Option ℕ → (globals : List AnyValue) → Kind → Local → Cell → Type 0
+  ParamIs lender globals Boxed o c = c ≡ Held (value_in_local o)
+  ParamIs lender globals Unboxed o c = BareParameter lender globals (value_in_local o) c
+  ParamIs lender globals ArrayKind o c = IsArray (array_in_local o) c
+
+  pub param_stays : (lender : Option ℕ) (σ σ1 : State) (k : Kind) (o : Local) (c : Cell) → LentStays lender σ σ1 → ParamIs lender σ.globals k o c → ParamIs lender σ1.globals k o c
+  param_stays lender σ σ1 Boxed o c h q = q
+  param_stays lender σ σ1 Unboxed o c h q = parameter_stays lender σ σ1 (value_in_local o) c h q
+  param_stays lender σ σ1 ArrayKind o c h q = q
 
   abbrev pub ParamLoose : Kind → Cell → Type 0
   ParamLoose Boxed c = (v : AnyValue) × (c ≡ Held v)
@@ -209,10 +215,11 @@ module _ (p : Program) (deepest : Observer) (ks : List Kind) (F : List Frame) wh
     pub room : length F + σ.own.calls_left ≡ deepest.callers
     pub names : length σ.globals ≡ length p.globals
     pub calm : Calm p σ.shared
+    pub lend : are_lenders (kinds_of p.globals) p.lenders ≡ true
 
   -- temporaries from t on are free, u iterators and w arrays of calls are in use
   pub record Fit (t u w : ℕ) (l : Locals) (σ : State) : Type 0 where
-    pub params : (i : ℕ) (k : Kind) → has_kind ks i k ≡ true → ParamIs k (get_or σ.own.locals i (Scalar Uninit)) (l.param i)
+    pub params : (i : ℕ) (k : Kind) → has_kind ks i k ≡ true → ParamIs (lender_at p.lenders i) σ.globals k (get_or σ.own.locals i (Scalar Uninit)) (l.param i)
     pub size : length σ.own.locals ≡ length ks
     pub answer : l.answer ≡ unanswered
     pub hands : (x : ℕ) → IsHand (l.hand x)
@@ -227,13 +234,13 @@ module _ (p : Program) (deepest : Observer) (ks : List Kind) (F : List Frame) wh
   array_loose : (a : ℕ) (c : Cell) → IsArray a c → is_owned c ≡ false
   array_loose a c h = elim h [ inl q ↦ ap is_owned q.1 | inr q ↦ ap is_owned q.0 ]
 
-  pub param_loose : (k : Kind) (o : Local) (c : Cell) → ParamIs k o c → ParamLoose k c
-  param_loose Boxed o c h = (value_in_local o, h)
-  param_loose Unboxed o c h = ap is_owned h.0
-  param_loose ArrayKind o c h = array_loose (array_in_local o) c h
+  pub param_loose : (lender : Option ℕ) (gs : List AnyValue) (k : Kind) (o : Local) (c : Cell) → ParamIs lender gs k o c → ParamLoose k c
+  param_loose lender gs Boxed o c h = (value_in_local o, h)
+  param_loose lender gs Unboxed o c h = parameter_unowned lender gs (value_in_local o) c h
+  param_loose lender gs ArrayKind o c h = array_loose (array_in_local o) c h
 
   pub fit_loose : (t u w : ℕ) (l : Locals) (σ : State) → Fit t u w l σ → Loose l
-  fit_loose t u w l σ f = record { params = λ i k h. param_loose k (get_or σ.own.locals i (Scalar Uninit)) (l.param i) (f.params i k h); hands = f.hands; numbers = f.numbers; walks = f.walks; yards = f.yards }
+  fit_loose t u w l σ f = record { params = λ i k h. param_loose (lender_at p.lenders i) σ.globals k (get_or σ.own.locals i (Scalar Uninit)) (l.param i) (f.params i k h); hands = f.hands; numbers = f.numbers; walks = f.walks; yards = f.yards }
 
   -- Changes.
 
@@ -313,7 +320,7 @@ module _ (p : Program) (deepest : Observer) (ks : List Kind) (F : List Frame) wh
     still = f.still;
     yards = f.yards;
     spare = f.spare;
-    sound = record { room = f.sound.room; names = f.sound.names; calm = h };
+    sound = record { room = f.sound.room; names = f.sound.names; calm = h; lend = f.sound.lend };
   }
 
   pub fit_turns : (t u w : ℕ) (l : Locals) (σ : State) (m : ℕ) → Fit t u w l σ → Fit t u w l (record σ { turns = m })
@@ -328,7 +335,28 @@ module _ (p : Program) (deepest : Observer) (ks : List Kind) (F : List Frame) wh
     still = f.still;
     yards = f.yards;
     spare = f.spare;
-    sound = record { room = f.sound.room; names = f.sound.names; calm = f.sound.calm };
+    sound = record { room = f.sound.room; names = f.sound.names; calm = f.sound.calm; lend = f.sound.lend };
+  }
+
+  -- the globals that lend have what they had
+  abbrev pub SameLent : State → State → Type 0
+  SameLent σ σ1 = (i : ℕ) → LentStays (lender_at p.lenders i) σ σ1
+
+  -- another state, whose own is the same, in which the globals that lend have what they had
+  pub fit_state : (t u w : ℕ) (l : Locals) (σ σ1 : State) → σ1.own ≡ σ.own → SameLent σ σ1 → Sound σ1 → Fit t u w l σ → Fit t u w l σ1
+  fit_state t u w l σ σ1 e same s f = record {
+    params = λ i k h. param_stays (lender_at p.lenders i) σ σ1 k (get_or σ1.own.locals i (Scalar Uninit)) (l.param i) (same i)
+        (subst (λ (o : CallFrame). ParamIs (lender_at p.lenders i) σ.globals k (get_or o.locals i (Scalar Uninit)) (l.param i)) (sym e) (f.params i k h));
+    size = ap (λ (o : CallFrame). length o.locals) e ∙ f.size;
+    answer = f.answer;
+    hands = f.hands;
+    numbers = f.numbers;
+    free = f.free;
+    walks = f.walks;
+    still = f.still;
+    yards = f.yards;
+    spare = f.spare;
+    sound = s;
   }
 
   -- arrays that are parameters stay what they are

@@ -51,7 +51,7 @@ use Rattle.lower_model.proofs.Branches.{block_ends}
 use Rattle.lower_model.proofs.Sequences.{dropped_ok}
 use Rattle.lower_model.proofs.Quick.{holder_is, name_is}
 use Rattle.lower_model.proofs.QuickNames.{all_flag, all_steps, all_few, name_longer, AllSure, none_is, some_is, nought_number, all_sure, among_sure, name_among, still_among}
-use Rattle.lower_model.proofs.QuickParts.{stored_turns, HolderFits, slot_fits, all_put, taken, stored_normal, Two, sum_stored, two_summed, set_code, AllUnboxed, name_got, all_unsure_ok, name_unboxed, set_means, set_sorted}
+use Rattle.lower_model.proofs.QuickParts.{stored_turns, HolderFits, slot_fits, all_put, taken, stored_normal, Two, sum_stored, two_summed, set_code, AllUnboxed, name_got, all_unsure_ok, name_unboxed, set_means, set_sorted, HolderTakes, takes_fits, words, all_words}
 
 -- Which code is such a step.
 
@@ -159,7 +159,7 @@ module _ (p : Program) (deepest : Observer) (ks : List Kind) (F : List Frame) (b
   FactorFits (Some c) = nat_le (unsigned_abs c) (2 ^ 53) ≡ true
 
   pub record RemainderParts (q : Remainder) : Type 0 where
-    pub target : HolderFits p deepest ks F b M n q.target
+    pub target : HolderTakes p deepest ks F b M n q.target
     pub name : HolderFits p deepest ks F b M n q.multiple.name
     pub factor : FactorFits q.multiple.factor
     pub divisor : nat_le (unsigned_abs q.divisor) (2 ^ 53) ≡ true
@@ -182,7 +182,7 @@ module _ (p : Program) (deepest : Observer) (ks : List Kind) (F : List Frame) (b
       record { target = h.kind; name = s.0; factor = s.1; divisor = h.second }
 
   pub remainder_unboxed : (q : Remainder) → RemainderParts q → AllUnboxed p deepest ks F b M n (remainder_names q)
-  remainder_unboxed q t = name_unboxed p deepest ks F b M n q.target (q.multiple.name ∷ []) t.target (t.name, tt)
+  remainder_unboxed q t = name_unboxed p deepest ks F b M n q.target (q.multiple.name ∷ []) (takes_fits p deepest ks F b M n q.target t.target) (t.name, tt)
 
   -- a name's number, or its product: what it is on the stack, and that the statement takes the remainder of it
   record Product (i : Holder) (f : Option ℤ) (m : AnyNumber) (σ : State) : Type 0 where
@@ -241,8 +241,8 @@ module _ (p : Program) (deepest : Observer) (ks : List Kind) (F : List Frame) (b
       Reached p deepest ks F b M (work_of (remainder_code q) + 30) σ.turns (at ks [] K (laid b l) F (remainder_dropped (layout p deepest ks F b M n) (Some q) (remainder_code q) d k) (beside_state p deepest ks F σ)) (StepDone p deepest ks F b M n lo u bk ct k K l) (Away p deepest ks F b d K) (plain_meant p deepest ks F b M n (Eval (remainder_code q)) σ)
   remainder_ok q ok is lo u d bk ct k K l σ so rm ar s =
       first (machine p deepest ks F) M (all_steps (remainder_names q) + 1) (W + 12) (W + 30) σ.turns _ _ P Q meant
-      (then_goes (all_unsure_ok p deepest ks F b M n _ _ (remainder_names q) (pos most) (most + most) 0 u 0 l σ (remainder_unboxed q parts) s.parameters s.fit) (chooses slow fast (if all_flag σ (pos most) (most + most) (remainder_names q) then 1 else 0))) few
-      (chosen (all_flag σ (pos most) (most + most) (remainder_names q)) refl)
+      (then_goes (all_unsure_ok p deepest ks F b M n _ _ (remainder_names q) (pos most) (most + most) 0 u 0 l σ (remainder_unboxed q parts) s.parameters s.fit) (chooses slow fast (if all_flag (words l σ) (pos most) (most + most) (remainder_names q) then 1 else 0))) few
+      (chosen (all_flag (words l σ) (pos most) (most + most) (remainder_names q)) refl)
     where
       S : Store
       S = beside_state p deepest ks F σ
@@ -283,10 +283,11 @@ module _ (p : Program) (deepest : Observer) (ks : List Kind) (F : List Frame) (b
       most-is : most ≤ 2 ^ 53
       most-is = most_few q.multiple.factor is.factor
 
-      quick : AllSure σ (pos most) (most + most) (remainder_names q) → Reached p deepest ks F b M (W + 12) σ.turns (at ks [] K1 (laid b l) F fast S) P Q meant
+      quick : AllSure (words l σ) σ (pos most) (most + most) (remainder_names q) → Reached p deepest ks F b M (W + 12) σ.turns (at ks [] K1 (laid b l) F fast S) P Q meant
       quick a =
-          let own = among_sure q.multiple.name (remainder_names q) (pos most) (most + most) σ (still_among q.target q.multiple.name (q.multiple.name ∷ []) (name_among q.multiple.name [])) a in
-          let to = among_sure q.target (remainder_names q) (pos most) (most + most) σ (name_among q.target (q.multiple.name ∷ [])) a in
+          let both = among_sure (words l σ) q.multiple.name (remainder_names q) (pos most) (most + most) σ (still_among q.target q.multiple.name (q.multiple.name ∷ []) (name_among q.multiple.name [])) a in
+          let own = both.0 in
+          let to = (among_sure (words l σ) q.target (remainder_names q) (pos most) (most + most) σ (name_among q.target (q.multiple.name ∷ [])) a).0 in
           let m = own.number in
           let hm : unsigned_abs m.number ≤ most = let x = own.sum in let y = own.few in grind (arith, ints, x, y) in
           let x = multiplies q.multiple.name q.multiple.factor m σ parts.factor hm own.value in
@@ -306,7 +307,7 @@ module _ (p : Program) (deepest : Observer) (ks : List Kind) (F : List Frame) (b
           subst (λ o. Reached p deepest ks F b M (W + 12) σ.turns (at ks [] K1 (laid b l) F fast S) P Q o) (sym means)
           (subst (λ g. Reached p deepest ks F b M (W + 12) g (at ks [] K1 (laid b l) F fast S) P Q (Gives Normal σ1)) tk
           (there (machine p deepest ks F) M (W + 12) (1 + (x.steps + (1 + (1 + 1)))) _ _ Normal σ1 P Q
-          (then_goes (goes_to (name_got p deepest ks F b M n _ _ _ q.multiple.name 0 u 0 l σ parts.name s.parameters s.fit) (ap (λ v. at ks (Bits (I64 v) ∷ []) K1 (laid b l) F (multiplied q.multiple.factor (emit (I64Const (word q.divisor)) (emit (Binary ty.I64 RemS) last))) S) (ap bare own.value ∙ bare_number m)))
+          (then_goes (goes_to (name_got p deepest ks F b M n _ _ _ q.multiple.name 0 u 0 l σ parts.name s.parameters s.fit) (ap (λ v. at ks (Bits (I64 v) ∷ []) K1 (laid b l) F (multiplied q.multiple.factor (emit (I64Const (word q.divisor)) (emit (Binary ty.I64 RemS) last))) S) (both.1 ∙ (ap bare own.value ∙ bare_number m))))
           (then_goes (x.goes K1 (emit (I64Const (word q.divisor)) (emit (Binary ty.I64 RemS) last)) l)
           (then_goes (by_steps 1 (ap (λ o. with_operands (push_result [] (Some (given_by I64 o))) ks K1 (laid b l) F last S) (ap (λ v. remainder_by x.number v) (sym ez) ∙ remainder_word x.number nz some)))
           (then_goes to_taken.goes closes)))) (omega (arith, xf))
@@ -315,9 +316,9 @@ module _ (p : Program) (deepest : Observer) (ks : List Kind) (F : List Frame) (b
           remainder_by : AnyNumber → ℤ → Result ℕ TrapKind
           remainder_by x z = remainder_signed w64 (number_word x) (word z)
 
-      chosen : (f : Bool) → all_flag σ (pos most) (most + most) (remainder_names q) ≡ f → Reached p deepest ks F b M (W + 12) σ.turns (at ks [] K1 (laid b l) F (cond (nat_eq (if f then 1 else 0) 0) fast slow) S) P Q meant
+      chosen : (f : Bool) → all_flag (words l σ) (pos most) (most + most) (remainder_names q) ≡ f → Reached p deepest ks F b M (W + 12) σ.turns (at ks [] K1 (laid b l) F (cond (nat_eq (if f then 1 else 0) 0) fast slow) S) P Q meant
       chosen true eq =
           within (machine p deepest ks F) M ((W + 8) + 1) (W + 12) σ.turns _ P Q meant (omega arith)
           (blocked p deepest ks F b M (W + 8) σ.turns d k K _ (StepDone p deepest ks F b M n lo u (suc bk) (suc ct) NoMore K1 l) P meant (λ f τ c h. block_ends p deepest ks F b M n lo u bk ct k K l f τ c h)
           (dropped_ok p deepest ks F b M n (remainder_code q) ok lo u (suc d) (suc bk) (suc ct) NoMore K1 l σ so rm ar (starts_among p deepest ks F b M n u K K1 l σ refl s)))
-      chosen false eq = quick (all_sure (remainder_names q) (pos most) (most + most) σ (let h = most-is in omega (arith, h)) (let h = most-is in omega (arith, h)) eq)
+      chosen false eq = quick (all_sure (words l σ) (remainder_names q) (pos most) (most + most) σ (all_words p deepest ks F b M n (remainder_names q) 0 u 0 l σ (remainder_unboxed q parts) s.fit) (let h = most-is in omega (arith, h)) (let h = most-is in omega (arith, h)) eq)

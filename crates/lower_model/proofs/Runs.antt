@@ -53,6 +53,11 @@ pub record Cost (M w l l' j m : ℕ) : Type 0 where
   pub paid : l ≤ l' + m
   pub few : j + M * l' ≤ w + M * l
 
+-- something is known of what an outcome gives
+abbrev pub Known : {A : Type 0} → (A → State → Type 0) → Outcome A → Type 0
+Known K (Gives a σ) = K a σ
+Known K (Stops why σ) = Unit {0}
+
 module _ (u : Code) (M : ℕ) where
   pub record Reaches (w l : ℕ) (c : Conf) (l' : ℕ) (P : Conf → Type 0) : Type 0 where
     pub conf : Conf
@@ -159,6 +164,12 @@ module _ (u : Code) (M : ℕ) where
   pub weaker : {A : Type 0} → (w l : ℕ) (c : Conf) (P P1 : A → State → Conf → Type 0) (Q Q1 : Stop → State → Conf → Type 0) (r : Outcome A) → ((a : A) (σ : State) (c1 : Conf) → P a σ c1 → P1 a σ c1) → ((y : Stop) (σ : State) (c1 : Conf) → Q y σ c1 → Q1 y σ c1) → Arrives w l c P Q r → Arrives w l c P1 Q1 r
   weaker w l c P P1 Q Q1 (Gives a σ) f g r = reaches_weaker w l σ.turns c (P a σ) (P1 a σ) (f a σ) r
   weaker w l c P P1 Q Q1 (Stops why σ) f g r = halts_weaker w l c Q Q1 why σ g r
+
+  -- what is known of the outcome is known where it is come to
+  pub knowing : {A : Type 0} → (w l : ℕ) (c : Conf) (P X : A → State → Conf → Type 0) (Q : Stop → State → Conf → Type 0) (K : A → State → Type 0) (r : Outcome A) → Known K r → ((a : A) (σ : State) (c1 : Conf) → P a σ c1 → K a σ → X a σ c1) →
+      Arrives w l c P Q r → Arrives w l c X Q r
+  knowing w l c P X Q K (Gives a σ) k f r = reaches_weaker w l σ.turns c (P a σ) (X a σ) (λ c1 h. f a σ c1 h k) r
+  knowing w l c P X Q K (Stops why σ) k f r = r
 
   -- at most j steps after
   pub record Onward (j : ℕ) (P : Conf → Type 0) (c : Conf) : Type 0 where

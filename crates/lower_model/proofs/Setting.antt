@@ -13,7 +13,7 @@ use Rattle.mid_program.specs.Mid.{Kind, ArrayKind, Program, Form, PrimitiveAnswe
 use Rattle.mid_program.specs.MidMeaning.{Holds, boxed}
 use Rattle.sem_scripts.specs.Steps.{truth_number}
 use Rattle.sem_scripts.specs.ScriptState.{State, Scalar, with_local}
-use Rattle.mid_program.specs.Sorted.{has_kind, is_number}
+use Rattle.mid_program.specs.Sorted.{has_kind, lender_at, is_number}
 use Rattle.lower_model.specs.Cells.{Cell, Bits}
 use Rattle.lower_model.specs.Machine.{Frame}
 use Rattle.lower_model.specs.Places.{Bases}
@@ -48,11 +48,11 @@ number_plain f e = tt
 
 module _ (p : Program) (deepest : Observer) (ks : List Kind) (F : List Frame) (b : Bases) (M n : ℕ) where
   -- a parameter has another value
-  pub fit_param : (i : ℕ) (k : Kind) (v : Value) (c : Cell) (t u w : ℕ) (l : Locals) (σ : State) → has_kind ks i k ≡ true → ParamIs p deepest ks F k (Scalar v) c → Fit p deepest ks F t u w l σ → Fit p deepest ks F t u w (with_at l (Param i) c) (with_local i v σ)
+  pub fit_param : (i : ℕ) (k : Kind) (v : Value) (c : Cell) (t u w : ℕ) (l : Locals) (σ : State) → has_kind ks i k ≡ true → ParamIs p deepest ks F (lender_at p.lenders i) σ.globals k (Scalar v) c → Fit p deepest ks F t u w l σ → Fit p deepest ks F t u w (with_at l (Param i) c) (with_local i v σ)
   fit_param i k v c t u w l σ hk h f = record {
     params = λ j k1 h1. elim (cases_eq j i) [
       | inl e ↦ here j k1 e h1
-      | inr ne ↦ subst (λ o. ParamIs p deepest ks F k1 o (upd_cell j)) (sym (get_or-set_other σ.own.locals i j (Scalar v) (Scalar Uninit) ne)) (subst (λ d. ParamIs p deepest ks F k1 (get_or σ.own.locals j (Scalar Uninit)) d) (sym (upd_other l.param i j c ne)) (f.params j k1 h1))
+      | inr ne ↦ subst (λ o. ParamIs p deepest ks F (lender_at p.lenders j) σ.globals k1 o (upd_cell j)) (sym (get_or-set_other σ.own.locals i j (Scalar v) (Scalar Uninit) ne)) (subst (λ d. ParamIs p deepest ks F (lender_at p.lenders j) σ.globals k1 (get_or σ.own.locals j (Scalar Uninit)) d) (sym (upd_other l.param i j c ne)) (f.params j k1 h1))
     ];
     size = length-set σ.own.locals i (Scalar v) ∙ f.size;
     answer = f.answer;
@@ -63,21 +63,21 @@ module _ (p : Program) (deepest : Observer) (ks : List Kind) (F : List Frame) (b
     still = f.still;
     yards = f.yards;
     spare = f.spare;
-    sound = record { room = f.sound.room; names = f.sound.names; calm = f.sound.calm };
+    sound = record { room = f.sound.room; names = f.sound.names; calm = f.sound.calm; lend = f.sound.lend };
   }
     where
       upd_cell : ℕ → Cell
       upd_cell j = (with_at l (Param i) c).param j
 
-      here : (j : ℕ) (k1 : Kind) → j ≡ i → has_kind ks j k1 ≡ true → ParamIs p deepest ks F k1 (get_or (set σ.own.locals i (Scalar v)) j (Scalar Uninit)) ((with_at l (Param i) c).param j)
+      here : (j : ℕ) (k1 : Kind) → j ≡ i → has_kind ks j k1 ≡ true → ParamIs p deepest ks F (lender_at p.lenders j) σ.globals k1 (get_or (set σ.own.locals i (Scalar v)) j (Scalar Uninit)) ((with_at l (Param i) c).param j)
       here j k1 e h1 =
           let sz = f.size in
           let lt = kind_below ks i k hk in
           let h2 : has_kind ks i k1 ≡ true = ap (λ z. has_kind ks z k1) (sym e) ∙ h1 in
           let kk : k ≡ k1 = sym (kind_found ks i k hk) ∙ kind_found ks i k1 h2 in
-          subst (λ z. ParamIs p deepest ks F k1 (get_or (set σ.own.locals i (Scalar v)) z (Scalar Uninit)) ((with_at l (Param i) c).param z)) (sym e)
-          (subst (λ o. ParamIs p deepest ks F k1 o ((with_at l (Param i) c).param i)) (sym (get_or-set_same σ.own.locals i (Scalar v) (Scalar Uninit) (omega (arith, sz, lt))))
-          (subst (λ d. ParamIs p deepest ks F k1 (Scalar v) d) (sym (upd_same l.param i c)) (subst (λ z. ParamIs p deepest ks F z (Scalar v) c) kk h)))
+          subst (λ z. ParamIs p deepest ks F (lender_at p.lenders z) σ.globals k1 (get_or (set σ.own.locals i (Scalar v)) z (Scalar Uninit)) ((with_at l (Param i) c).param z)) (sym e)
+          (subst (λ o. ParamIs p deepest ks F (lender_at p.lenders i) σ.globals k1 o ((with_at l (Param i) c).param i)) (sym (get_or-set_same σ.own.locals i (Scalar v) (Scalar Uninit) (omega (arith, sz, lt))))
+          (subst (λ d. ParamIs p deepest ks F (lender_at p.lenders i) σ.globals k1 (Scalar v) d) (sym (upd_same l.param i c)) (subst (λ z. ParamIs p deepest ks F (lender_at p.lenders i) σ.globals z (Scalar v) c) kk h)))
 
   pub kinds_apart : (i j : ℕ) (k : Kind) → has_kind ks i k ≡ true → has_kind ks j ArrayKind ≡ true → (k ≡ ArrayKind → ⊥) → j ≢ i
   kinds_apart i j k h h1 ne e = ne (sym (kind_found ks i k h) ∙ kind_found ks i ArrayKind (ap (λ z. has_kind ks z ArrayKind) (sym e) ∙ h1))

@@ -1,8 +1,8 @@
 -- Names take a value: globals, and boxed parameters.
-use Rattle.std.proofs.Common.{◌≡◌, ℕ, suc, ◌+◌, ◌<◌, ◌≤◌, Bool, true, false, List, [], ◌∷◌, length, Option, None, refl, sym, ap, ◌∙◌, subst, arith}
-use Rattle.std.specs.Prelude.{◌&&◌, nat_eq}
+use Rattle.std.proofs.Common.{◌≡◌, ℕ, suc, ◌+◌, ◌<◌, ◌≤◌, Bool, true, false, List, [], ◌∷◌, length, Option, None, refl, sym, ap, ◌∙◌, subst, arith, Some}
+use Rattle.std.specs.Prelude.{◌&&◌, nat_eq, not, is_some}
 use Rattle.wasm_store.specs.Words.{flag}
-use Rattle.std.proofs.lemmas.Bool.{and_parts}
+use Rattle.std.proofs.lemmas.Bool.{and_parts, not-true}
 use Rattle.std.proofs.lemmas.List.{get_or-set_other}
 use Rattle.awk_values.specs.declared.value.Value.{Value}
 use Rattle.awk_values.specs.declared.value.Value.TheVariants.{Uninit, Num}
@@ -17,7 +17,7 @@ use Rattle.wasm_store.specs.declared.word.Word.TheVariants.{I64}
 use Rattle.mid_program.specs.Mid.{Kind, Boxed, Unboxed, ArrayKind, Program, Slot, Global, Parameter, Form, PrimitiveAnswer, NumberOrText, OptionalNumber, Code, Set, form_of, source_of}
 use Rattle.mid_program.specs.MidMeaning.{Holds, Env, evaluated, all_evaluated, boxed, store_slot}
 use Rattle.sem_scripts.specs.ScriptState.{State, Gives, ◌>>◌, give, Scalar, with_local, with_global, global_value, local_value, array_in_local}
-use Rattle.mid_program.specs.Sorted.{Held as Standing, sorted, all_sorted, held_after, has_kind, kinds_of, mixed_of, is_mixed, is_number, is_slot, takes, fits}
+use Rattle.mid_program.specs.Sorted.{Held as Standing, sorted, all_sorted, held_after, has_kind, kinds_of, mixed_of, is_mixed, is_number, is_slot, takes, fits, lends, lender_at}
 use Rattle.lower_model.specs.Cells.{Cell, Bits, Held, Gone, is_owned}
 use Rattle.lower_model.specs.Emission.{emitted, all_emitted, handle_stored, slot_set, text_dropped, text_stored}
 use Rattle.lower_model.specs.Machine.{Conf, Label, Frame, Store, at, label}
@@ -31,7 +31,7 @@ use Rattle.lower_model.proofs.Globals.{Globals, Hand as NameHand, Number as Name
 use Rattle.lower_model.proofs.Steps.{empty, get_moved, get_copied, set_ok}
 use Rattle.lower_model.proofs.GlobalSteps.{storing, while_assigning, comes_back, mixed_comes, global_moved, global_copied, global_set_ok}
 use Rattle.lower_model.proofs.Pieces.{chooses, closes, drop_ok, number_is_ok}
-use Rattle.lower_model.proofs.State.{bare, beside, bare_number, beside_number, cells_of, host_of, kind_here, arrays_before, name_hand, name_word, word_not_beside, BareOf, IsBeside, IsNone, IsNumber, stored_in}
+use Rattle.lower_model.proofs.State.{bare, beside, bare_number, beside_number, cells_of, host_of, kind_here, arrays_before, name_hand, name_word, word_not_beside, BareOf, IsBeside, IsNone, IsNumber, stored_in, BareParameter, number_taken}
 use Rattle.lower_model.proofs.Relation.{HoldsAt, Below, kept_same, Same, same_self, same_hand, same_then, Fit, SameOwn, Away}
 use Rattle.lower_model.proofs.Answers.{machine, beside_state, Reached}
 use Rattle.lower_model.proofs.Conversions.{bare_is}
@@ -40,6 +40,7 @@ use Rattle.lower_model.proofs.Written.{fit_global, global_written}
 use Rattle.lower_model.proofs.Setting.{number_of_form, number_boxed, number_held, number_plain, fit_param, kinds_apart, stands_number}
 use Rattle.lower_model.proofs.Simulation.{work_of, StandsAt, still_stands, NoArray, plain_stands, layout, context, meant, Done, ExprOk, room_one}
 use Rattle.lower_model.proofs.Reading.{kind_below, kind_found}
+use Rattle.mid_program.proofs.Lenders.{boxed_lends}
 
 value_plain : (f : Form) → fits f sort.Value ≡ true → NoArray f
 value_plain (PrimitiveAnswer (answer.Of sort.Array)) e = absurd cc
@@ -313,6 +314,23 @@ module _ (p : Program) (deepest : Observer) (ks : List Kind) (F : List Frame) (b
   stands_param true f t i l c x q = q
   stands_param false f t i l c x q = q
 
+  -- nothing lends there
+  abbrev Open : Slot → Type 0
+  Open (Global true i) = lends p.lenders i ≡ false
+  Open (Global false i) = Unit {0}
+  Open (Parameter true i) = lender_at p.lenders i ≡ None
+  Open (Parameter false i) = Unit {0}
+
+  none_there : (o : Option ℕ) → is_some o ≡ false → o ≡ None
+  none_there None h = refl
+  none_there (Some g) h = cc
+
+  open_taken : (x : Slot) (o : Option Slot) (f : Form) → takes (context p deepest ks F b M n) x o f ≡ true → Open x
+  open_taken (Global true i) o f h = not-true (lends p.lenders i) (and_parts (not (lends p.lenders i)) _ h).0
+  open_taken (Global false i) o f h = tt
+  open_taken (Parameter true i) o f h = none_there (lender_at p.lenders i) (not-true (is_some (lender_at p.lenders i)) (and_parts (not (is_some (lender_at p.lenders i))) _ h).0)
+  open_taken (Parameter false i) o f h = tt
+
   record Took (x : Slot) (o : Bool) (f : Form) (y : Holds f) (t u w : ℕ) (k : Instructions) (K : List Label) (l : Locals) (σ : State) : Type 0 where
     next : Locals
     takes_it : TakesValue 14 (slot_set (layout p deepest ks F b M n) o x f t k) k K l σ next (stored_in x (boxed f y) σ)
@@ -324,27 +342,27 @@ module _ (p : Program) (deepest : Observer) (ks : List Kind) (F : List Frame) (b
   param_apart : (i : ℕ) (k : Kind) (v : Value) (σ : State) → has_kind ks i k ≡ true → (k ≡ ArrayKind → ⊥) → SameOwn p deepest ks F σ (with_local i v σ)
   param_apart i k v σ h ne j q = ap array_in_local (get_or-set_other σ.own.locals i j (Scalar v) (Scalar Uninit) (kinds_apart p deepest ks F b M n i j k h q ne))
 
-  took : (x : Slot) (o : Bool) (f : Form) (y : Holds f) (t u w : ℕ) (k : Instructions) (K : List Label) (l : Locals) (σ : State) → is_slot (context p deepest ks F b M n) x ≡ true → takes_plain x f ≡ true → length ks ≡ b.parameters → t < b.temporaries → Fit p deepest ks F (suc t) u w l σ → HoldsAt f t l y → Took x o f y t u w k K l σ
-  took (Global false i) o f y t u w k K l σ hk tk pk lt ft hd = record {
+  took : (x : Slot) (o : Bool) (f : Form) (y : Holds f) (t u w : ℕ) (k : Instructions) (K : List Label) (l : Locals) (σ : State) → is_slot (context p deepest ks F b M n) x ≡ true → takes_plain x f ≡ true → Open x → length ks ≡ b.parameters → t < b.temporaries → Fit p deepest ks F (suc t) u w l σ → HoldsAt f t l y → Took x o f y t u w k K l σ
+  took (Global false i) o f y t u w k K l σ hk tk op pk lt ft hd = record {
     next = handed o t l;
     takes_it = boxed_global_set o f y i t l σ K k lt tk hd ft.sound.names hk;
-    fit = fit_global p deepest ks F b M n i (boxed f y) (suc t) u w (handed o t l) σ (handed_fit p deepest ks F b M n o t (suc t) u w l σ (omega arith) ft);
+    fit = fit_global p deepest ks F b M n i (boxed f y) (suc t) u w (handed o t l) σ (boxed_lends (kinds_of p.globals) p.lenders i ft.sound.lend hk) (handed_fit p deepest ks F b M n o t (suc t) u w l σ (omega arith) ft);
     same = handed_under o t w l;
     own = λ j q. refl;
     stands = handed_stands o f t l y hd;
   }
-  took (Global true i) o f y t u w k K l σ hk tk pk lt ft hd =
+  took (Global true i) o f y t u w k K l σ hk tk op pk lt ft hd =
       let nh = number_held f y tk t l hd in
       let s = bare_global_set o f i t l (number_of_form f y tk) σ K k tk lt nh.0 nh.1 ft.sound.names hk in
       record {
         next = l;
         takes_it = record { steps = s.steps; few = s.few; goes = goes_to s.goes (ap (λ v. at ks [] K (laid b l) F k (beside_state p deepest ks F (with_global i v σ))) (sym (number_boxed f y tk))) };
-        fit = fit_global p deepest ks F b M n i (boxed f y) (suc t) u w l σ ft;
+        fit = fit_global p deepest ks F b M n i (boxed f y) (suc t) u w l σ op ft;
         same = same_self [] t w l;
         own = λ j q. refl;
         stands = stands_number p deepest ks F b M n o f t l y nh.0 hd;
       }
-  took (Parameter false i) o f y t u w k K l σ hk tk pk lt ft hd =
+  took (Parameter false i) o f y t u w k K l σ hk tk op pk lt ft hd =
       let v = boxed f y in
       let li = kind_below ks i Boxed hk in
       let sm = handed_under o t w l in
@@ -356,7 +374,7 @@ module _ (p : Program) (deepest : Observer) (ks : List Kind) (F : List Frame) (b
         own = param_apart i Boxed v σ hk (λ z. cc);
         stands = stands_param o f t i (handed o t l) (Held v) y (handed_stands o f t l y hd);
       }
-  took (Parameter true i) o f y t u w k K l σ hk tk pk lt ft hd =
+  took (Parameter true i) o f y t u w k K l σ hk tk op pk lt ft hd =
       let nh = number_held f y tk t l hd in
       let m = number_of_form f y tk in
       let nb = number_boxed f y tk in
@@ -367,9 +385,9 @@ module _ (p : Program) (deepest : Observer) (ks : List Kind) (F : List Frame) (b
         takes_it = record {
           steps = 2;
           few = omega arith;
-          goes = then_goes (get_copied b l (NumberAt t) c lt nh.1 refl) (set_ok b l (Param i) c (omega (arith, li, pk)) (ap is_owned (ft.params i Unboxed hk).0));
+          goes = then_goes (get_copied b l (NumberAt t) c lt nh.1 refl) (set_ok b l (Param i) c (omega (arith, li, pk)) (ap is_owned (ft.params i Unboxed hk).1));
         };
-        fit = fit_param p deepest ks F b M n i Unboxed (boxed f y) c (suc t) u w l σ hk (ap (λ z. Bits (I64 z)) (sym (ap bare nb ∙ bare_number m)), ap beside nb ∙ beside_number m) ft;
+        fit = fit_param p deepest ks F b M n i Unboxed (boxed f y) c (suc t) u w l σ hk (subst (λ z. BareParameter (lender_at p.lenders i) σ.globals z c) (sym nb) (number_taken (lender_at p.lenders i) σ.globals m)) ft;
         same = record { hands = λ z h q. refl; numbers = λ z h. refl; iterators = λ z. refl; arrays = λ z h. refl };
         own = param_apart i Unboxed (boxed f y) σ hk (λ z. cc);
         stands = stands_param o f t i l c y (stands_number p deepest ks F b M n o f t l y nh.0 hd);
@@ -392,7 +410,7 @@ module _ (p : Program) (deepest : Observer) (ks : List Kind) (F : List Frame) (b
       then_on mach M (work_of e) 14 (work_of (Set x e)) σ.turns _ (Done p deepest ks F b M n false e fs env ts st t u w k1 K l σ) P Q (meant p deepest ks F b M n fs env e σ) _ (omega arith)
       (ok false fs env ts st t u w d k1 K l σ s2.1 us rm ar rd)
       (λ y τ c1 le a.
-      let g = took x v f y t u w k K a.next τ s1.0 tk rd.parameters (omega (arith, rm, r1)) a.fit (still_stands e f t a.next y a.stands) in
+      let g = took x v f y t u w k K a.next τ s1.0 tk (open_taken x (source_of e) f s2.0) rd.parameters (omega (arith, rm, r1)) a.fit (still_stands e f t a.next y a.stands) in
       let z = boxed f y in
       subst (λ r. Reached p deepest ks F b M 14 τ.turns c1 P Q r) (stored_gives x z y τ)
       (subst (λ m. Reached p deepest ks F b M 14 m c1 P Q (Gives y (stored_in x z τ))) (stored_turns x z τ)

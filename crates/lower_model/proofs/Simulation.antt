@@ -50,7 +50,7 @@ abbrev mutual
   work_of (Number z) = 1
   work_of (Text i) = 2
   work_of Unset = 1
-  work_of (Get x) = 12
+  work_of (Get x) = 18
   work_of (Set x e) = 40 + work_of e
   work_of (Array a) = 0
   work_of (IsOpen i) = 3

@@ -31,7 +31,7 @@ use Rattle.lower_model.proofs.Answers.{machine, beside_state, row_called, away_w
 use Rattle.lower_model.proofs.HostLaws.{Few}
 use Rattle.lower_model.proofs.InputLaws.{IsPending, GoodStart, start_good}
 use Rattle.lower_model.proofs.Spending.{Asks, state_after, conf_after, asking, spends_ok}
-use Rattle.lower_model.proofs.Asking.{behind_call, loop_at, came_out, fit_answered, fit_faulted, assign_work, pends_ok}
+use Rattle.lower_model.proofs.Asking.{behind_call, loop_at, came_out, fit_answered, fit_faulted, assign_work, pends_ok, NoneLent}
 use Rattle.lower_model.proofs.Simulation.{layout}
 
 module _ (p : Program) (deepest : Observer) (ks : List Kind) (F : List Frame) (b : Bases) (M n : ℕ) where
@@ -91,23 +91,23 @@ module _ (p : Program) (deepest : Observer) (ks : List Kind) (F : List Frame) (b
   LoopFrom m = (t u w d : ℕ) (k : Instructions) (K : List Label) (l : Locals) (σ : State) → suc t < b.temporaries → Fit p deepest ks F t u w l σ → σ.turns ≤ m →
       Reached p deepest ks F b M 10 σ.turns (at ks [] (loop_at p deepest ks F b M n (ask_row row.StartAssign) t d k ∷ K) (laid b l) F (ask_row row.StartAssign (behind_call p deepest ks F b M n t d)) (beside_state p deepest ks F σ)) (Started t u w k K l σ) (Away p deepest ks F b d K) (first_assigned m σ)
 
-  loop_ok : assign_work p deepest ks F b M n ≤ M → (m : ℕ) → LoopFrom m
+  loop_ok : assign_work p deepest ks F b M n ≤ M → NoneLent p deepest ks F b M n → (m : ℕ) → LoopFrom m
   unfolding first_assigned
-  loop_ok enough zero t u w d k K l σ lt ft tm =
+  loop_ok enough none zero t u w d k K l σ lt ft tm =
       once_ok t u w d k K l σ (omega (arith, lt)) ft (stop OutOfTurns)
       (λ m j le nm fw ip. none_more t u w d k K l σ (omega (arith, lt)) ft m (Ok (j, assign.Pending)) j (omega (arith, le, tm)))
-  loop_ok enough (suc m) t u w d k K l σ lt ft tm =
+  loop_ok enough none (suc m) t u w d k K l σ lt ft tm =
       once_ok t u w d k K l σ (omega (arith, lt)) ft (assign_pending >> first_assigned m)
       (λ m1 j le nm fw ip.
-      pends_ok p deepest ks F b M n (ask_row row.StartAssign) (first_assigned m) m enough t u w d k K l σ (Started t u w k K l σ) (Away p deepest ks F b d K) lt ft (state_after p deepest ks F M answer.Assign σ m1 (Ok (j, assign.Pending))) ip nm fw refl (omega (arith, le, tm))
+      pends_ok p deepest ks F b M n (ask_row row.StartAssign) (first_assigned m) m enough none t u w d k K l σ (Started t u w k K l σ) (Away p deepest ks F b d K) lt ft (state_after p deepest ks F M answer.Assign σ m1 (Ok (j, assign.Pending))) ip nm fw refl (omega (arith, le, tm))
       (λ l2 σ2 f2 t2 same own.
       weaker (machine p deepest ks F) M 10 σ2.turns _ (Started t u w k K l2 σ2) (Started t u w k K l σ) (Away p deepest ks F b d K) (Away p deepest ks F b d K) (first_assigned m σ2)
       (λ x τ2 c4 g. record { next = g.next; comes = g.comes; fit = g.fit; same = same_then [] t t w w l l2 g.next (omega arith) (omega arith) same g.same; own = λ i q. g.own i q ∙ own i q })
       (λ why τ2 c4 g. g)
-      (loop_ok enough m t u w d k K l2 σ2 lt f2 t2)))
+      (loop_ok enough none m t u w d k K l2 σ2 lt f2 t2)))
 
   -- the code before BEGIN makes them
-  pub first_assigned_ok : assign_work p deepest ks F b M n ≤ M → (m t u w d : ℕ) (k : Instructions) (K : List Label) (l : Locals) (σ : State) → suc t < b.temporaries → Fit p deepest ks F t u w l σ → σ.turns ≤ m →
+  pub first_assigned_ok : assign_work p deepest ks F b M n ≤ M → NoneLent p deepest ks F b M n → (m t u w d : ℕ) (k : Instructions) (K : List Label) (l : Locals) (σ : State) → suc t < b.temporaries → Fit p deepest ks F t u w l σ → σ.turns ≤ m →
       Reached p deepest ks F b M 11 σ.turns (at ks [] K (laid b l) F (asked (layout p deepest ks F b M n) row.StartAssign t d k) (beside_state p deepest ks F σ)) (Started t u w k K l σ) (Away p deepest ks F b d K) (first_assigned m σ)
-  first_assigned_ok enough m t u w d k K l σ lt ft tm =
-      first (machine p deepest ks F) M 1 10 11 σ.turns _ _ (Started t u w k K l σ) (Away p deepest ks F b d K) (first_assigned m σ) (by_steps 1 refl) (omega arith) (loop_ok enough m t u w d k K l σ lt ft tm)
+  first_assigned_ok enough none m t u w d k K l σ lt ft tm =
+      first (machine p deepest ks F) M 1 10 11 σ.turns _ _ (Started t u w k K l σ) (Away p deepest ks F b d K) (first_assigned m σ) (by_steps 1 refl) (omega arith) (loop_ok enough none m t u w d k K l σ lt ft tm)

@@ -1,5 +1,5 @@
 -- The machine's store beside a script's state.
-use Rattle.std.proofs.Common.{◌≡◌, ◌⊎◌, inr, ℕ, zero, suc, ◌^◌, false, List, [], ◌∷◌, length, Some, None, Option, refl, sym, ap, ◌∙◌, arith, w64, unsigned_abs, true}
+use Rattle.std.proofs.Common.{◌≡◌, ◌⊎◌, inl, inr, ℕ, zero, suc, ◌^◌, false, List, [], ◌∷◌, length, Some, None, Option, refl, sym, ap, ◌∙◌, arith, w64, unsigned_abs, true, ℤ}
 use Rattle.std.specs.Prelude.{get_or, nat_eq, ◌-◌}
 use Rattle.std.specs.Int.{cast_signed}
 use Rattle.std.proofs.lemmas.Bool.{ne_eqb}
@@ -12,9 +12,10 @@ use Rattle.sem_primitives.specs.Numbers.{Number, number_of, number_word}
 use Rattle.sem_primitives.proofs.Words.{word_no_fault, small, fits, number_again}
 use Rattle.wasm_store.specs.declared.word.Word.TheVariants.{I32, I64}
 use Rattle.mid_program.specs.Mid.{Slot, Global, Parameter, Kind, Boxed, Unboxed, ArrayKind}
+use Rattle.mid_program.specs.Sorted.{lender_at}
 use Rattle.sem_scripts.specs.ScriptState.{State, Stop, Faulted, OutOfTurns, TooDeep, Nexted, Exited, Returned, global_value, local_value, with_global, with_local}
 use Rattle.lower_model.specs.Quick.{Holder, OfName, OfParameter}
-use Rattle.lower_model.specs.Cells.{Cell, Bits, Held, OwnedArray, Gone}
+use Rattle.lower_model.specs.Cells.{Cell, Bits, Held, OwnedArray, Gone, is_owned}
 use Rattle.lower_model.specs.ImportCalls.{Host}
 use Rattle.lower_model.specs.Machine.{Store}
 use Rattle.lower_model.specs.Small.{least, text_beside}
@@ -60,6 +61,26 @@ pub data AnswerIs (v : Value) (m : ℕ) (text : Cell) : Type 0 where
   Nothing : v ≡ value.Uninit → m ≡ least → text ≡ Gone → AnswerIs v m text
   ANumber : (x : Number) → v ≡ value.Num x.number → m ≡ number_word x → text ≡ Gone → AnswerIs v m text
 
+-- The word of an unboxed parameter: its number's, or that it has nothing; where a global lends at its place it may have nothing in place of what that has.
+
+abbrev pub ParameterWord : Option ℕ → (globals : List Value) → Value → ℕ → Type 0
+ParameterWord None globals v m = (m ≡ bare v) × (beside v ≡ empty)
+ParameterWord (Some g) globals v m = ((x : Number) × (v ≡ value.Num x.number) × (m ≡ number_word x)) ⊎ ((m ≡ least) × (v ≡ get_or globals g value.Uninit))
+
+abbrev pub BareParameter : Option ℕ → (globals : List Value) → Value → Cell → Type 0
+BareParameter o globals v c = (m : ℕ) × (c ≡ Bits (I64 m)) × ParameterWord o globals v m
+
+-- what lends still has what it had
+abbrev pub LentStays : Option ℕ → State → State → Type 0
+LentStays o σ σ1 = (g : ℕ) → o ≡ Some g → global_value g σ1 ≡ global_value g σ
+
+pub parameter_stays : (o : Option ℕ) (σ σ1 : State) (v : Value) (c : Cell) → LentStays o σ σ1 → BareParameter o σ.globals v c → BareParameter o σ1.globals v c
+parameter_stays None σ σ1 v c h q = q
+parameter_stays (Some g) σ σ1 v c h q = (q.0, q.1, elim q.2 [ inl n ↦ inl n | inr n ↦ inr (n.0, n.1 ∙ sym (h g refl)) ])
+
+pub parameter_unowned : (o : Option ℕ) (gs : List Value) (v : Value) (c : Cell) → BareParameter o gs v c → is_owned c ≡ false
+parameter_unowned o gs v c q = ap is_owned q.1
+
 abbrev pub perhaps : Option Number → ℕ
 perhaps (Some n) = number_word n
 perhaps None = least
@@ -78,6 +99,17 @@ bare_number n = ap word_or_beside (number_again n)
 
 pub beside_number : (n : Number) → beside (value.Num n.number) ≡ empty
 beside_number n = ap (unless_number (value.Num n.number)) (number_again n)
+
+-- a number, whatever lends
+pub number_taken : (o : Option ℕ) (gs : List Value) (n : Number) → BareParameter o gs (value.Num n.number) (Bits (I64 (number_word n)))
+number_taken None gs n = (number_word n, refl, (sym (bare_number n), beside_number n))
+number_taken (Some g) gs n = (number_word n, refl, inl (n, refl, refl))
+
+-- it is what the value tells, or nothing
+pub parameter_word : (o : Option ℕ) (gs : List Value) (v : Value) (m : ℕ) → ParameterWord o gs v m → (m ≡ bare v) ⊎ (m ≡ least)
+parameter_word None gs v m q = inl q.0
+parameter_word (Some g) gs v m (inl q) = inl (q.2 ∙ sym (ap bare q.1 ∙ bare_number q.0))
+parameter_word (Some g) gs v m (inr q) = inr q.0
 
 -- What a slot's state is once it has another value.
 

@@ -1,5 +1,5 @@
 -- Where a step begins the machine is tidy, so that it goes on past the `nop` there.
-use Rattle.std.proofs.Common.{◌≡◌, inl, inr, ℕ, zero, suc, ◌+◌, ◌<◌, ◌≤◌, Bool, true, false, List, [], ◌∷◌, ◌++◌, length, refl, sym, ap, ap₂, ◌∙◌, append-nil, arith}
+use Rattle.std.proofs.Common.{◌≡◌, inl, inr, ℕ, zero, suc, ◌+◌, ◌<◌, ◌≤◌, Bool, true, false, List, [], ◌∷◌, ◌++◌, length, Option, Some, None, refl, sym, ap, ap₂, ◌∙◌, append-nil, arith}
 use Rattle.std.specs.Prelude.{drop, get_or, not, ◌&&◌, cond, nat_eq}
 use Rattle.std.proofs.lemmas.Bool.{eq-eqb}
 use Rattle.std.proofs.lemmas.List.{take_at, drop_at}
@@ -11,7 +11,7 @@ use Rattle.awk_values.specs.declared.value.Value.TheVariants.{Uninit}
 use Rattle.wasm_store.specs.declared.word.Word.TheVariants.{I64}
 use Rattle.sem_scripts.specs.ScriptState.{State, Stop, Execution, ◌>>◌, Local, Scalar, global_value, value_in_local}
 use Rattle.sem_scripts.specs.Statements.{Flow}
-use Rattle.mid_program.specs.Sorted.{has_kind, same_kind, kinds_of}
+use Rattle.mid_program.specs.Sorted.{has_kind, lender_at, same_kind, kinds_of}
 use Rattle.lower_model.specs.Cells.{Cell, Bits, Held, IteratorOf, OwnedArray, LentArray, Gone, is_owned, none_owned, is_held, is_array, is_iterator, no_temporary, count_cells, iterators_in, tidy_locals, tidy_name, each_name, globals_by, is_bare, mark_fits, marks_fit}
 use Rattle.lower_model.specs.Machine.{Conf, Label, Frame, at, guarded, loops_walked}
 use Rattle.lower_model.specs.Noted.{noted, noting}
@@ -23,7 +23,7 @@ use Rattle.lower_model.proofs.Regions.{cells, pairs, cells_length}
 use Rattle.lower_model.proofs.Globals.{Globals, names_on, placed}
 use Rattle.lower_model.proofs.Locals.{Locals, temporaries_on, laid}
 use Rattle.lower_model.proofs.Steps.{empty}
-use Rattle.lower_model.proofs.State.{bare, beside, kind_here, arrays_before, name_hand, name_word, cells_of, word_not_beside, BareOf, IsBeside, IsNone, IsNumber}
+use Rattle.lower_model.proofs.State.{bare, beside, BareParameter, kind_here, arrays_before, name_hand, name_word, cells_of, word_not_beside, BareOf, IsBeside, IsNone, IsNumber}
 use Rattle.lower_model.proofs.Relation.{Fit, IsWalk, ParamIs, ParamLoose, fit_loose, param_loose}
 use Rattle.lower_model.proofs.Conversions.{bare_is}
 use Rattle.lower_model.proofs.Answers.{machine, beside_state, Reached}
@@ -117,6 +117,11 @@ bare_fine v q = by (bare_is v)
     by (IsNone e e1 e2) = ap (λ n. is_bare (Bits (I64 n))) e1
     by (IsNumber m e e1 e2) = ap (λ n. is_bare (Bits (I64 n))) e1 ∙ ap not (word_not_beside m)
 
+parameter_fine : (o : Option ℕ) (gs : List Value) (v : Value) (c : Cell) → BareParameter o gs v c → is_bare c ≡ true
+parameter_fine None gs v c q = ap is_bare q.1 ∙ (ap (λ m. is_bare (Bits (I64 m))) q.2.0 ∙ bare_fine v q.2.1)
+parameter_fine (Some g) gs v c q =
+    ap is_bare q.1 ∙ elim q.2 [ inl y ↦ ap (λ m. is_bare (Bits (I64 m))) y.2 ∙ ap not (word_not_beside y.0) | inr y ↦ ap (λ m. is_bare (Bits (I64 m))) y.0 ]
+
 mark_fine : (k : Kind) (a : ℕ) (v : Value) → mark_fits k (name_hand k a v) (Bits (I64 (name_word k v))) ≡ true
 mark_fine Boxed a v = refl
 mark_fine ArrayKind a v = refl
@@ -182,11 +187,11 @@ module _ (p : Program) (deepest : Observer) (ks : List Kind) (F : List Frame) (b
         passed q (f zero) (count_cells q (cells (λ i. f (suc i)) (length js) ++ rest)) (loose_still k (f zero) (h zero k (same_self k)))
         ∙ still_parameters js (λ i. f (suc i)) rest (λ i j e. h (suc i) j e)
 
-  tidy_parameters : (js : List Kind) (o : ℕ → Local) (f : ℕ → Cell) (rest : List Cell) → ((i : ℕ) (k : Kind) → has_kind js i k ≡ true → ParamIs p deepest ks F k (o i) (f i)) → no_temporary rest ≡ true → tidy_locals js (cells f (length js) ++ rest) ≡ true
-  tidy_parameters [] o f rest h r = r
-  tidy_parameters (Boxed ∷ js) o f rest h r = ap₂ (λ x y. x && y) (ap is_held (h zero Boxed refl)) (tidy_parameters js (λ i. o (suc i)) (λ i. f (suc i)) rest (λ i j e. h (suc i) j e) r)
-  tidy_parameters (Unboxed ∷ js) o f rest h r = ap₂ (λ x y. x && y) (ap is_bare (h zero Unboxed refl).0 ∙ bare_fine (value_in_local (o zero)) (h zero Unboxed refl).1) (tidy_parameters js (λ i. o (suc i)) (λ i. f (suc i)) rest (λ i j e. h (suc i) j e) r)
-  tidy_parameters (ArrayKind ∷ js) o f rest h r = ap₂ (λ x y. not x && y) (param_loose p deepest ks F ArrayKind (o zero) (f zero) (h zero ArrayKind refl)) (tidy_parameters js (λ i. o (suc i)) (λ i. f (suc i)) rest (λ i j e. h (suc i) j e) r)
+  tidy_parameters : (lender : ℕ → Option ℕ) (gs : List Value) (js : List Kind) (o : ℕ → Local) (f : ℕ → Cell) (rest : List Cell) → ((i : ℕ) (k : Kind) → has_kind js i k ≡ true → ParamIs p deepest ks F (lender i) gs k (o i) (f i)) → no_temporary rest ≡ true → tidy_locals js (cells f (length js) ++ rest) ≡ true
+  tidy_parameters lender gs [] o f rest h r = r
+  tidy_parameters lender gs (Boxed ∷ js) o f rest h r = ap₂ (λ x y. x && y) (ap is_held (h zero Boxed refl)) (tidy_parameters (λ i. lender (suc i)) gs js (λ i. o (suc i)) (λ i. f (suc i)) rest (λ i j e. h (suc i) j e) r)
+  tidy_parameters lender gs (Unboxed ∷ js) o f rest h r = ap₂ (λ x y. x && y) (parameter_fine (lender zero) gs (value_in_local (o zero)) (f zero) (h zero Unboxed refl)) (tidy_parameters (λ i. lender (suc i)) gs js (λ i. o (suc i)) (λ i. f (suc i)) rest (λ i j e. h (suc i) j e) r)
+  tidy_parameters lender gs (ArrayKind ∷ js) o f rest h r = ap₂ (λ x y. not x && y) (param_loose p deepest ks F (lender zero) gs ArrayKind (o zero) (f zero) (h zero ArrayKind refl)) (tidy_parameters (λ i. lender (suc i)) gs js (λ i. o (suc i)) (λ i. f (suc i)) rest (λ i j e. h (suc i) j e) r)
 
   -- the locals behind the parameters
   abbrev behind : Locals → List Cell
@@ -209,7 +214,7 @@ module _ (p : Program) (deepest : Observer) (ks : List Kind) (F : List Frame) (b
 
   locals_tidy : (u : ℕ) (K : List Label) (l : Locals) (σ : State) → Starts p deepest ks F b M n u K l σ → tidy_locals ks (laid b l) ≡ true
   locals_tidy u K l σ s =
-      ap (λ m. tidy_locals ks (cells l.param m ++ behind l)) (sym s.parameters) ∙ tidy_parameters ks (λ i. get_or σ.own.locals i (Scalar Uninit)) l.param (behind l) s.fit.params (behind_fine u K l σ s)
+      ap (λ m. tidy_locals ks (cells l.param m ++ behind l)) (sym s.parameters) ∙ tidy_parameters (lender_at p.lenders) σ.globals ks (λ i. get_or σ.own.locals i (Scalar Uninit)) l.param (behind l) s.fit.params (behind_fine u K l σ s)
 
   locals_walked : (u : ℕ) (K : List Label) (l : Locals) (σ : State) → Starts p deepest ks F b M n u K l σ → nat_eq (iterators_in (laid b l)) (loops_walked K) ≡ true
   locals_walked u K l σ s =
@@ -227,7 +232,7 @@ module _ (p : Program) (deepest : Observer) (ks : List Kind) (F : List Frame) (b
   }
 
   fit_noted : (c : Instructions) (t u w : ℕ) (l : Locals) (σ : State) → Fit p deepest ks F t u w l σ → Fit p deepest ks F t u w l (noting deepest.notes c σ)
-  fit_noted c t u w l σ f = record { params = f.params; size = f.size; answer = f.answer; hands = f.hands; numbers = f.numbers; free = f.free; walks = f.walks; still = f.still; yards = f.yards; spare = f.spare; sound = record { room = f.sound.room; names = f.sound.names; calm = record { pending = f.sound.calm.pending; names = f.sound.calm.names; few = f.sound.calm.few } } }
+  fit_noted c t u w l σ f = record { params = f.params; size = f.size; answer = f.answer; hands = f.hands; numbers = f.numbers; free = f.free; walks = f.walks; still = f.still; yards = f.yards; spare = f.spare; sound = record { room = f.sound.room; names = f.sound.names; calm = record { pending = f.sound.calm.pending; names = f.sound.calm.names; few = f.sound.calm.few }; lend = f.sound.lend } }
 
   pub starts_noted : (c : Instructions) (u : ℕ) (K : List Label) (l : Locals) (σ : State) → Starts p deepest ks F b M n u K l σ → Starts p deepest ks F b M n u K l (noting deepest.notes c σ)
   starts_noted c u K l σ s = record { fit = fit_noted c 0 u 0 l σ s.fit; walked = s.walked; walks = s.walks; loops = s.loops; turns = s.turns; parameters = s.parameters }

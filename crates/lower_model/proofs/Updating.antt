@@ -52,7 +52,7 @@ use Rattle.lower_model.proofs.Fields.{field_code, field_at_is, field_found}
 use Rattle.lower_model.proofs.Products.{word, is_out, mod_small, mod_once}
 use Rattle.host_imports.specs.declared.import.Import.TheVariants.{OfPrimitive}
 use Rattle.lower_model.proofs.Quick.{holder_is, name_is}
-use Rattle.lower_model.proofs.QuickParts.{HolderFits, slot_fits, set_sorted}
+use Rattle.lower_model.proofs.QuickParts.{HolderFits, slot_fits, set_sorted, HolderTakes}
 use Rattle.lower_model.proofs.State.{holder_slot, holder_value}
 use Rattle.lower_model.proofs.QuickNames.{some_is}
 use Rattle.lower_model.proofs.Simulation.{work_of, context, layout, meant, Done, ExprOk, room_one, still_stands}
@@ -120,7 +120,7 @@ module _ (p : Program) (deepest : Observer) (ks : List Kind) (F : List Frame) (b
 
   pub record UpdateParts (q : Update) : Type 0 where
     pub added : sorted (context p deepest ks F b M n) [] q.added ≡ true
-    pub kind : HolderFits p deepest ks F b M n q.target
+    pub kind : HolderTakes p deepest ks F b M n q.target
     pub name : HolderFits p deepest ks F b M n q.name
     pub numeric : fits_sort (form_of [] q.added) sort.Number ≡ true
 
@@ -165,7 +165,7 @@ module _ (p : Program) (deepest : Observer) (ks : List Kind) (F : List Frame) (b
 
   -- the name takes the sum, once what is added is there
   name_takes : (q : Update) (u d : ℕ) (k : Instructions) (K : List Label) (l : Locals) (x : Holds (form_of [] q.added)) (τ : State) → UpdateParts q → length ks ≡ b.parameters → is_sum q.op ≡ true → 1 < b.temporaries → Fit p deepest ks F 1 u 0 l τ → HoldsAt (form_of [] q.added) 0 l x →
-      Reached p deepest ks F b M 70 τ.turns (at ks [] K (laid b l) F (name_numbered (layout p deepest ks F b M n) q.name 1 d (Small.to_number b (form_of [] q.added) zero d (emit (LocalGet (number_local b 1)) (emit (LocalGet (number_local b zero)) (sum_taken (layout p deepest ks F b M n) (sum_op q.op) q.target zero d k))))) (beside_state p deepest ks F τ))
+      Reached p deepest ks F b M 75 τ.turns (at ks [] K (laid b l) F (name_numbered (layout p deepest ks F b M n) q.name 1 d (Small.to_number b (form_of [] q.added) zero d (emit (LocalGet (number_local b 1)) (emit (LocalGet (number_local b zero)) (sum_taken (layout p deepest ks F b M n) (sum_op q.op) q.target zero d k))))) (beside_state p deepest ks F τ))
       (λ a. Summed p deepest ks F b M n u k K l) (Away p deepest ks F b d K) (added_meant q x τ)
   name_takes q u d k K l x τ parts pk so lt ft hd =
       let mach = machine p deepest ks F in
@@ -178,7 +178,7 @@ module _ (p : Program) (deepest : Observer) (ks : List Kind) (F : List Frame) (b
       let k1 = Small.to_number b g zero d k2 in
       let own = number_of_row (holder_value q.name τ) in
       let f2 = fit_more p deepest ks F 1 u 0 l τ ft in
-      then_settled mach M 22 48 70 _ τ (Converted p deepest ks F b M 2 u 0 1 a_number k1 K l) P Q own (λ m σ1. go_on (settled (converted g sort.Number x) σ1) (λ z σ2. sum_given p deepest ks F b M n q.target σ2 (outcome_of (arithmetic_of q.op m.number z.number)))) (omega arith)
+      then_settled mach M 27 48 75 _ τ (Converted p deepest ks F b M 2 u 0 1 a_number k1 K l) P Q own (λ m σ1. go_on (settled (converted g sort.Number x) σ1) (λ z σ2. sum_given p deepest ks F b M n q.target σ2 (outcome_of (arithmetic_of q.op m.number z.number)))) (omega arith)
       (name_numbered_ok p deepest ks F b M n q.name 2 u 0 1 d k1 K l τ parts.name pk (omega arith) lt f2 (ft.free 1 (omega arith)))
       (λ m c1 e1 a1.
       first mach M 0 48 48 τ.turns c1 _ P Q _ (same_goes a1.comes) (omega arith)
@@ -193,7 +193,7 @@ module _ (p : Program) (deepest : Observer) (ks : List Kind) (F : List Frame) (b
       (added_ok p deepest ks F b M n q.op q.target m z u d k K l2 τ so parts.kind pk (omega (arith, lt)) (fit_less p deepest ks F 1 u 0 l2 τ (a2.keeps.hands 1 (λ e. omega (arith, e)) ∙ a1.holds.0) a2.fit) a2.holds.0)))))
 
   plainly_updated_ok : (q : Update) → ExprOk p deepest ks F b M n q.added → (lo : Bool) (u d bk ct : ℕ) (k : Instructions) (K : List Label) (l : Locals) (σ : State) → sorted (context p deepest ks F b M n) [] (added_code q) ≡ true → is_sum q.op ≡ true → room (added_code q) ≤ b.temporaries → arrays_in (added_code q) ≤ b.arrays → Starts p deepest ks F b M n u K l σ →
-      Reached p deepest ks F b M (work_of q.added + 70) σ.turns (at ks [] K (laid b l) F (both_asked (layout p deepest ks F b M n) None q d (sum_taken (layout p deepest ks F b M n) (sum_op q.op) q.target zero d k)) (beside_state p deepest ks F σ)) (StepDone p deepest ks F b M n lo u bk ct k K l) (Away p deepest ks F b d K) (plain_meant p deepest ks F b M n (Eval (added_code q)) σ)
+      Reached p deepest ks F b M (work_of q.added + 75) σ.turns (at ks [] K (laid b l) F (both_asked (layout p deepest ks F b M n) None q d (sum_taken (layout p deepest ks F b M n) (sum_op q.op) q.target zero d k)) (beside_state p deepest ks F σ)) (StepDone p deepest ks F b M n lo u bk ct k K l) (Away p deepest ks F b d K) (plain_meant p deepest ks F b M n (Eval (added_code q)) σ)
   unfolding stepped evaluated all_evaluated
   plainly_updated_ok q ok lo u d bk ct k K l σ so sm rm ar s =
       let mach = machine p deepest ks F in
@@ -206,14 +206,14 @@ module _ (p : Program) (deepest : Observer) (ks : List Kind) (F : List Frame) (b
       let k2 = emit (LocalGet (number_local b 1)) (emit (LocalGet (number_local b zero)) (sum_taken y (sum_op q.op) q.target zero d k)) in
       let k1 = name_numbered y q.name 1 d (Small.to_number b g zero d k2) in
       let r1 = room_one q.added in
-      then_on mach M (work_of q.added + 70) 0 (work_of q.added + 70) σ.turns _ P0 P Q (meant p deepest ks F b M n [] tt (added_code q) σ) _ (omega arith)
-      (then_on mach M (work_of q.added) 70 (work_of q.added + 70) σ.turns _ (Done p deepest ks F b M n false q.added [] tt [] (λ i. There) zero u zero k1 K l σ) P0 Q (meant p deepest ks F b M n [] tt q.added σ) _ (omega arith)
+      then_on mach M (work_of q.added + 75) 0 (work_of q.added + 75) σ.turns _ P0 P Q (meant p deepest ks F b M n [] tt (added_code q) σ) _ (omega arith)
+      (then_on mach M (work_of q.added) 75 (work_of q.added + 75) σ.turns _ (Done p deepest ks F b M n false q.added [] tt [] (λ i. There) zero u zero k1 K l σ) P0 Q (meant p deepest ks F b M n [] tt q.added σ) _ (omega arith)
       (ok false [] tt [] (λ i. There) zero u zero d k1 K l σ parts.added (λ i lt. absurd (omega (arith, lt))) (omega (arith, rm)) (omega (arith, ar)) (ready p deepest ks F b M n u K l σ s))
       (λ x τ c1 le h.
       let l1 = h.next in
-      first mach M 0 70 70 τ.turns c1 _ P0 Q _ (same_goes h.comes) (omega arith)
-      (weaker mach M 70 τ.turns _ (λ a. Summed p deepest ks F b M n u k K l1) P0 Q Q _ (λ w σ1 c e. summed_since p deepest ks F b M n u k K l l1 σ1 c h.same.iterators e) (λ why σ1 c e. e)
-      (subst (λ r. Reached p deepest ks F b M 70 τ.turns (at ks [] K (laid b l1) F k1 (beside_state p deepest ks F τ)) (λ a. Summed p deepest ks F b M n u k K l1) Q r) (sym (stored_means q x τ))
+      first mach M 0 75 75 τ.turns c1 _ P0 Q _ (same_goes h.comes) (omega arith)
+      (weaker mach M 75 τ.turns _ (λ a. Summed p deepest ks F b M n u k K l1) P0 Q Q _ (λ w σ1 c e. summed_since p deepest ks F b M n u k K l l1 σ1 c h.same.iterators e) (λ why σ1 c e. e)
+      (subst (λ r. Reached p deepest ks F b M 75 τ.turns (at ks [] K (laid b l1) F k1 (beside_state p deepest ks F τ)) (λ a. Summed p deepest ks F b M n u k K l1) Q r) (sym (stored_means q x τ))
       (name_takes q u d k K l1 x τ parts s.parameters sm (omega (arith, rm, r1)) h.fit (still_stands q.added g zero l1 x h.stands))))))
       (λ w τ c1 le h.
       there mach M 0 0 c1 c1 Normal τ P Q stays (omega arith)
@@ -242,7 +242,7 @@ module _ (p : Program) (deepest : Observer) (ks : List Kind) (F : List Frame) (b
       (away_with p deepest ks F b M 0 u 0 d w K l σ f (fit_less p deepest ks F 0 u 0 l σ he ft))
 
   -- the name takes the sum with the field's number, if there is one
-  field_adds : (r : Result AnyNumber Fault) (o : Arithmetic) (m : AnyNumber) (i : Holder) (u d : ℕ) (k : Instructions) (K : List Label) (l : Locals) (σ : State) → is_sum o ≡ true → HolderFits p deepest ks F b M n i → length ks ≡ b.parameters → 0 < b.temporaries → Fit p deepest ks F 1 u 0 l σ → l.hand 0 ≡ empty →
+  field_adds : (r : Result AnyNumber Fault) (o : Arithmetic) (m : AnyNumber) (i : Holder) (u d : ℕ) (k : Instructions) (K : List Label) (l : Locals) (σ : State) → is_sum o ≡ true → HolderTakes p deepest ks F b M n i → length ks ≡ b.parameters → 0 < b.temporaries → Fit p deepest ks F 1 u 0 l σ → l.hand 0 ≡ empty →
       Reached p deepest ks F b M 30 σ.turns (at ks (reply (answer.Of sort.Number) r (Bits (I64 (number_word m)) ∷ [])) K (laid b l) F (sum_taken (layout p deepest ks F b M n) (sum_op o) i zero d k) (after_reply p deepest ks F r σ)) (λ a. Summed p deepest ks F b M n u k K l) (Away p deepest ks F b d K) (go_on (settled r σ) (λ z σ1. sum_given p deepest ks F b M n i σ1 (outcome_of (arithmetic_of o m.number z.number))))
   field_adds (Ok z) o m i u d k K l σ so hk pk lt ft he = added_ok p deepest ks F b M n o i m z u d k K l σ so hk pk lt ft he
   field_adds (Err f) o m i u d k K l σ so hk pk lt ft he = fault_found f o m i u d k K l σ so lt ft he
@@ -254,7 +254,7 @@ module _ (p : Program) (deepest : Observer) (ks : List Kind) (F : List Frame) (b
   with_field q z = with_added q (field_code z)
 
   field_updated_ok : (q : Update) (z : ℤ) → is_field_number z ≡ true → (lo : Bool) (u d bk ct : ℕ) (k : Instructions) (K : List Label) (l : Locals) (σ : State) → sorted (context p deepest ks F b M n) [] (added_code (with_field q z)) ≡ true → is_sum q.op ≡ true → room (added_code (with_field q z)) ≤ b.temporaries → Starts p deepest ks F b M n u K l σ →
-      Reached p deepest ks F b M (work_of (field_code z) + 70) σ.turns (at ks [] K (laid b l) F (both_asked (layout p deepest ks F b M n) (Some z) (with_field q z) d (sum_taken (layout p deepest ks F b M n) (sum_op q.op) q.target zero d k)) (beside_state p deepest ks F σ)) (StepDone p deepest ks F b M n lo u bk ct k K l) (Away p deepest ks F b d K) (plain_meant p deepest ks F b M n (Eval (added_code (with_field q z))) σ)
+      Reached p deepest ks F b M (work_of (field_code z) + 75) σ.turns (at ks [] K (laid b l) F (both_asked (layout p deepest ks F b M n) (Some z) (with_field q z) d (sum_taken (layout p deepest ks F b M n) (sum_op q.op) q.target zero d k)) (beside_state p deepest ks F σ)) (StepDone p deepest ks F b M n lo u bk ct k K l) (Away p deepest ks F b d K) (plain_meant p deepest ks F b M n (Eval (added_code (with_field q z))) σ)
   unfolding stepped evaluated all_evaluated
   field_updated_ok q z is lo u d bk ct k K l σ so sm rm s =
       let mach = machine p deepest ks F in
@@ -263,7 +263,7 @@ module _ (p : Program) (deepest : Observer) (ks : List Kind) (F : List Frame) (b
       let parts = added_sorted q1 so in
       let found = field_found p deepest ks F b M n z σ is in
       let a = found.value in
-      let W = work_of (field_code z) + 70 in
+      let W = work_of (field_code z) + 75 in
       let Q = Away p deepest ks F b d K in
       let P0 : AnyNumber → State → Conf → Type 0 = λ x. Summed p deepest ks F b M n u k K l in
       let P = StepDone p deepest ks F b M n lo u bk ct k K l in
@@ -277,7 +277,7 @@ module _ (p : Program) (deepest : Observer) (ks : List Kind) (F : List Frame) (b
       then_on mach M W 0 W σ.turns _ P0 P Q (meant p deepest ks F b M n [] tt (added_code q1) σ) _ (omega arith)
       (subst (λ (r : Outcome Value). Reached p deepest ks F b M W σ.turns start P0 Q (go_on r (λ x τ. meant p deepest ks F b M n (a_value ∷ []) (x, tt) (Set (holder_slot q.target) (Do (Inline q.op) (At (Get (holder_slot q.name)) (At (Bound true zero) End)))) τ))) (sym found.means)
       (subst (λ r. Reached p deepest ks F b M W σ.turns start P0 Q r) (sym (stored_means q1 a σ))
-      (then_settled mach M 22 34 W _ σ (Converted p deepest ks F b M 1 u 0 0 a_number k1 K l) P0 Q own (λ m σ1. go_on (settled (number_of_row a) σ1) (sum m)) (omega arith)
+      (then_settled mach M 27 34 W _ σ (Converted p deepest ks F b M 1 u 0 0 a_number k1 K l) P0 Q own (λ m σ1. go_on (settled (number_of_row a) σ1) (sum m)) (omega arith)
       (name_numbered_ok p deepest ks F b M n q.name 1 u 0 0 d k1 K l σ parts.name s.parameters (omega arith) lt (fit_more p deepest ks F 0 u 0 l σ ft) (ft.free 0 (omega arith)))
       (λ m c1 e1 a1.
       let l1 = a1.next in
@@ -292,13 +292,13 @@ module _ (p : Program) (deepest : Observer) (ks : List Kind) (F : List Frame) (b
       (record { next = h.next; comes = h.comes; starts = starts_after p deepest ks F b M n u K K l h.next σ τ s refl le h.iterators h.fit; iterators = h.iterators; flows = flows_on lo }))
 
   pub updated_ok : (q : Update) → ExprOk p deepest ks F b M n q.added → (lo : Bool) (u d bk ct : ℕ) (k : Instructions) (K : List Label) (l : Locals) (σ : State) → sorted (context p deepest ks F b M n) [] (added_code q) ≡ true → is_sum q.op ≡ true → room (added_code q) ≤ b.temporaries → arrays_in (added_code q) ≤ b.arrays → Starts p deepest ks F b M n u K l σ →
-      Reached p deepest ks F b M (work_of q.added + 70) σ.turns (at ks [] K (laid b l) F (updated (layout p deepest ks F b M n) q d k) (beside_state p deepest ks F σ)) (StepDone p deepest ks F b M n lo u bk ct k K l) (Away p deepest ks F b d K) (plain_meant p deepest ks F b M n (Eval (added_code q)) σ)
+      Reached p deepest ks F b M (work_of q.added + 75) σ.turns (at ks [] K (laid b l) F (updated (layout p deepest ks F b M n) q d k) (beside_state p deepest ks F σ)) (StepDone p deepest ks F b M n lo u bk ct k K l) (Away p deepest ks F b d K) (plain_meant p deepest ks F b M n (Eval (added_code q)) σ)
   updated_ok q ok lo u d bk ct k K l σ so sm rm ar s = by (field_at q.added) refl
     where
-      by : (o : Option ℤ) → field_at q.added ≡ o → Reached p deepest ks F b M (work_of q.added + 70) σ.turns (at ks [] K (laid b l) F (both_asked (layout p deepest ks F b M n) o q d (sum_taken (layout p deepest ks F b M n) (sum_op q.op) q.target zero d k)) (beside_state p deepest ks F σ)) (StepDone p deepest ks F b M n lo u bk ct k K l) (Away p deepest ks F b d K) (plain_meant p deepest ks F b M n (Eval (added_code q)) σ)
+      by : (o : Option ℤ) → field_at q.added ≡ o → Reached p deepest ks F b M (work_of q.added + 75) σ.turns (at ks [] K (laid b l) F (both_asked (layout p deepest ks F b M n) o q d (sum_taken (layout p deepest ks F b M n) (sum_op q.op) q.target zero d k)) (beside_state p deepest ks F σ)) (StepDone p deepest ks F b M n lo u bk ct k K l) (Away p deepest ks F b d K) (plain_meant p deepest ks F b M n (Eval (added_code q)) σ)
       by None e = plainly_updated_ok q ok lo u d bk ct k K l σ so sm rm ar s
       by (Some z) e =
           let r = field_at_is q.added z e in
           subst (λ (a : Code). sorted (context p deepest ks F b M n) [] (added_code (with_added q a)) ≡ true → room (added_code (with_added q a)) ≤ b.temporaries →
-          Reached p deepest ks F b M (work_of a + 70) σ.turns (at ks [] K (laid b l) F (both_asked (layout p deepest ks F b M n) (Some z) (with_added q a) d (sum_taken (layout p deepest ks F b M n) (sum_op q.op) q.target zero d k)) (beside_state p deepest ks F σ)) (StepDone p deepest ks F b M n lo u bk ct k K l) (Away p deepest ks F b d K) (plain_meant p deepest ks F b M n (Eval (added_code (with_added q a))) σ)) (sym r.0)
+          Reached p deepest ks F b M (work_of a + 75) σ.turns (at ks [] K (laid b l) F (both_asked (layout p deepest ks F b M n) (Some z) (with_added q a) d (sum_taken (layout p deepest ks F b M n) (sum_op q.op) q.target zero d k)) (beside_state p deepest ks F σ)) (StepDone p deepest ks F b M n lo u bk ct k K l) (Away p deepest ks F b d K) (plain_meant p deepest ks F b M n (Eval (added_code (with_added q a))) σ)) (sym r.0)
           (λ so1 rm1. field_updated_ok q z r.1 lo u d bk ct k K l σ so1 sm rm1 s) so rm

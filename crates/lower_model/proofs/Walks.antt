@@ -19,9 +19,9 @@ use Rattle.mid_program.specs.declared.mid.Operation.TheVariants.{Host, Inline, A
 use Rattle.mid_program.specs.Mid.{Kind, Boxed, Unboxed, ArrayKind, Slot, Global, Parameter, Code, Do, Over, Compare, Call, Ask, AskLine, FileLine, Replace, Number, Text, Unset, Get, Set, Array, IsOpen, Choose, Seq, Let, Bound, Codes, End, At, Fixed, Fresh, Form, PrimitiveAnswer, NumberOrText, OptionalNumber, form_of, form_at, arguments, parameters_at}
 use Rattle.mid_program.specs.MidMeaning.{three_values}
 use Rattle.sem_scripts.specs.Names.{ArrayName, Numbered, Given}
-use Rattle.mid_program.specs.Sorted.{count_of}
+use Rattle.mid_program.specs.Sorted.{count_of, lender_at}
 use Rattle.lower_model.specs.Arithmetic.{calculated, compared, values_compared, numbers_compared, bare_compared, texts_beside, zeroed_if, is_value, may_be_text}
-use Rattle.lower_model.specs.Emission.{Layout, name_read, added_or, emitted, all_emitted, all_converted, all_pushed, array_pushed, performed, all_boxed, all_appended, listed_asked, all_given, all_given_pushed, slot_read, slot_set, field_in, field_or, Immediate, immediate_in, immediate_or, left_over, sequence_closed, keeping_closed, bound_read, tested}
+use Rattle.lower_model.specs.Emission.{Layout, name_read, added_or, emitted, all_emitted, all_converted, all_pushed, array_pushed, performed, all_boxed, all_appended, listed_asked, all_given, all_given_pushed, slot_read, slot_set, field_in, field_or, Immediate, immediate_in, immediate_or, left_over, sequence_closed, keeping_closed, bound_read, tested, lent, parameter_read}
 use Rattle.lower_model.specs.Machine.{is_walk}
 use Rattle.lower_model.specs.Places.{Bases, number_local}
 use Rattle.lower_model.specs.Quick.{Holder, OfName, OfParameter, Addition, addition_names, addition_in, all_unsure}
@@ -162,9 +162,15 @@ module _ (y : Layout) where
   listed_stern (listed.Print to) count t d k = (refl, refl)
   listed_stern (listed.Printf to) count t d k = (refl, refl)
 
+  lent_stern : (f : Form) (t : ℕ) (k : Instructions) → Stern k → Stern (lent y f t k)
+  lent_stern (PrimitiveAnswer a) t k h = h
+  lent_stern NumberOrText t k h = (refl, refl)
+  lent_stern OptionalNumber t k h = h
+
   given_stern : (fs : List Form) (ks : List Kind) (es : Codes) (t : ℕ) (k : Instructions) → Stern k → Stern (all_given y fs ks es t k)
   given_stern fs (Boxed ∷ ks) (At e es) t k h = value_stern y.bases (form_of fs e) t _ (given_stern fs ks es (suc t) k h)
-  given_stern fs (kind ∷ ks) (At e es) t k h = given_stern fs ks es (suc t) k h
+  given_stern fs (Unboxed ∷ ks) (At e es) t k h = lent_stern (form_of fs e) t (all_given y fs ks es (suc t) k) (given_stern fs ks es (suc t) k h)
+  given_stern fs (ArrayKind ∷ ks) (At e es) t k h = given_stern fs ks es (suc t) k h
   given_stern fs (kind ∷ ks) (Fresh es) t k h = given_stern fs ks es t k h
   given_stern fs ks es t k h = h
 
@@ -180,7 +186,11 @@ module _ (y : Layout) where
   read_stern (Global false i) t k = (refl, refl)
   read_stern (Global true i) t k = (refl, refl)
   read_stern (Parameter false i) t k = (refl, refl)
-  read_stern (Parameter true i) t k = (refl, refl)
+  read_stern (Parameter true i) t k = by (lender_at y.lenders i)
+    where
+      by : (o : Option ℕ) → Stern (parameter_read y o i t k)
+      by None = (refl, refl)
+      by (Some g) = (refl, refl)
 
   set_stern : (v : Bool) (x : Slot) (f : Form) (t : ℕ) (k : Instructions) → Stern (slot_set y v x f t k)
   set_stern v (Global false i) f t k = (refl, refl)

@@ -9,7 +9,7 @@ use Rattle.wasm_store.specs.declared.word.Word.TheVariants.{I64}
 use Rattle.mid_program.specs.Mid.{Kind, Boxed, Unboxed, ArrayKind, Program}
 use Rattle.sem_scripts.specs.ScriptRun.{Setting, unless}
 use Rattle.sem_scripts.specs.ScriptState.{State, Faulted, Execution, Stops, Gives}
-use Rattle.mid_program.specs.Sorted.{kinds_of, all_differ, announced_names}
+use Rattle.mid_program.specs.Sorted.{are_lenders, kinds_of, all_differ, announced_names}
 use Rattle.lower_model.specs.Cells.{Cell, Bits, is_owned, ended_name}
 use Rattle.lower_model.specs.Functions.{layout_of, main_bases, main_callee}
 use Rattle.lower_model.specs.Machine.{Notes, Label, at, label}
@@ -46,7 +46,7 @@ ended_empty Boxed = refl
 ended_empty Unboxed = refl
 ended_empty ArrayKind = refl
 
-module _ (p : Program) (notes : Notes) (s : Setting) (M turns : ℕ) (differ : all_differ (announced_names p) ≡ true) (one : suc zero ≤ (main_bases p).temporaries) where
+module _ (p : Program) (notes : Notes) (s : Setting) (M turns : ℕ) (differ : all_differ (announced_names p) ≡ true) (lend : are_lenders (kinds_of p.globals) p.lenders ≡ true) (one : suc zero ≤ (main_bases p).temporaries) where
   abbrev bases : Bases
   bases = main_bases p
 
@@ -155,7 +155,7 @@ module _ (p : Program) (notes : Notes) (s : Setting) (M turns : ℕ) (differ : a
             still = λ x le. refl;
             yards = λ x. inl refl;
             spare = λ x le. refl;
-            sound = record { room = omega arith; names = many; calm = h.calm };
+            sound = record { room = omega arith; names = many; calm = h.calm; lend = lend };
           };
           walked = λ x lt. absurd (omega (arith, lt));
           walks = omega arith;

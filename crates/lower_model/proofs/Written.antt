@@ -1,13 +1,14 @@
 -- The store once a global name has another value.
-use Rattle.std.proofs.Common.{◌≡◌, ◌≢◌, inl, inr, ℕ, suc, ◌<◌, List, [], ◌∷◌, ◌++◌, length, sym, ap, ◌∙◌, arith}
+use Rattle.std.proofs.Common.{◌≡◌, ◌≢◌, inl, inr, ℕ, suc, ◌<◌, true, false, List, [], ◌∷◌, ◌++◌, length, Some, refl, sym, ap, ◌∙◌, arith}
+use Rattle.std.specs.Prelude.{get_or}
 use Rattle.std.proofs.lemmas.Bool.{cases_eq}
 use Rattle.std.proofs.lemmas.List.{get_or-set_same, get_or-set_other, length-set, length-map}
 use Rattle.awk_values.specs.declared.value.Value.{Value}
 use Rattle.awk_values.specs.declared.value.Value.TheVariants.{Uninit}
 use Rattle.wasm_store.specs.declared.word.Word.TheVariants.{I64}
 use Rattle.mid_program.specs.Mid.{Kind, Program, Declared}
-use Rattle.sem_scripts.specs.ScriptState.{State, with_global, global_value}
-use Rattle.mid_program.specs.Sorted.{kinds_of}
+use Rattle.sem_scripts.specs.ScriptState.{State, Scalar, with_global, global_value}
+use Rattle.mid_program.specs.Sorted.{has_kind, kinds_of, lender_at, lends}
 use Rattle.lower_model.specs.Cells.{Cell, Bits}
 use Rattle.lower_model.specs.Machine.{Frame}
 use Rattle.lower_model.specs.Places.{Bases}
@@ -15,13 +16,33 @@ use Rattle.lower_model.proofs.Observer.{Observer}
 use Rattle.lower_model.proofs.Regions.{upd, upd_same, upd_other, cells, pairs_same}
 use Rattle.lower_model.proofs.Globals.{placed}
 use Rattle.lower_model.proofs.Locals.{Locals}
-use Rattle.lower_model.proofs.State.{kind_here, arrays_before, name_hand, name_word, cells_of}
-use Rattle.lower_model.proofs.Relation.{Fit}
+use Rattle.lower_model.proofs.State.{LentStays, kind_here, arrays_before, name_hand, name_word, cells_of}
+use Rattle.lower_model.proofs.Relation.{Fit, SameLent, param_stays}
+use Rattle.mid_program.proofs.Lenders.{not_lender}
 
 module _ (p : Program) (deepest : Observer) (ks : List Kind) (F : List Frame) (b : Bases) (M n : ℕ) where
-  -- a global has another value
-  pub fit_global : (i : ℕ) (v : Value) (t u w : ℕ) (l : Locals) (σ : State) → Fit p deepest ks F t u w l σ → Fit p deepest ks F t u w l (with_global i v σ)
-  fit_global i v t u w l σ f = record { params = f.params; size = f.size; answer = f.answer; hands = f.hands; numbers = f.numbers; free = f.free; walks = f.walks; still = f.still; yards = f.yards; spare = f.spare; sound = record { room = f.sound.room; names = length-set σ.globals i v ∙ f.sound.names; calm = f.sound.calm } }
+  -- a global that lends nothing has another value
+  pub others_lend : (i : ℕ) (v : Value) (σ : State) → lends p.lenders i ≡ false → SameLent p deepest ks F σ (with_global i v σ)
+  others_lend i v σ e j g h = get_or-set_other σ.globals i g v Uninit (λ q. not_lender p.lenders j i e (h ∙ ap Some q))
+
+  pub fit_global_by : (i : ℕ) (v : Value) (t u w : ℕ) (l : Locals) (σ : State) → ((j : ℕ) (k : Kind) → has_kind ks j k ≡ true → LentStays (lender_at p.lenders j) σ (with_global i v σ)) → Fit p deepest ks F t u w l σ →
+      Fit p deepest ks F t u w l (with_global i v σ)
+  fit_global_by i v t u w l σ same f = record {
+    params = λ j k h. param_stays p deepest ks F (lender_at p.lenders j) σ (with_global i v σ) k (get_or σ.own.locals j (Scalar Uninit)) (l.param j) (same j k h) (f.params j k h);
+    size = f.size;
+    answer = f.answer;
+    hands = f.hands;
+    numbers = f.numbers;
+    free = f.free;
+    walks = f.walks;
+    still = f.still;
+    yards = f.yards;
+    spare = f.spare;
+    sound = record { room = f.sound.room; names = length-set σ.globals i v ∙ f.sound.names; calm = f.sound.calm; lend = f.sound.lend };
+  }
+
+  pub fit_global : (i : ℕ) (v : Value) (t u w : ℕ) (l : Locals) (σ : State) → lends p.lenders i ≡ false → Fit p deepest ks F t u w l σ → Fit p deepest ks F t u w l (with_global i v σ)
+  fit_global i v t u w l σ e f = fit_global_by i v t u w l σ (λ j k h. others_lend i v σ e j) f
 
   -- its two cells were written, and the others are as they were
   pub global_written : (i : ℕ) (v : Value) (σ : State) (c m : Cell) → length σ.globals ≡ length p.globals → i < length (kinds_of p.globals) →

@@ -28,7 +28,7 @@ use Rattle.mid_program.specs.MidMeaning.{three_values}
 use Rattle.sem_scripts.specs.Names.{ArrayName, Numbered, Given}
 use Rattle.sem_scripts.specs.Steps.{is_field_number}
 use Rattle.mid_program.specs.Mid.{Kind, Boxed, Unboxed, ArrayKind, Slot, Global, Parameter, Code, Do, Over, Compare, Call, Ask, AskLine, FileLine, Replace, Number, Text, Unset, Get, Set, Array, IsOpen, Choose, Seq, Let, Bound, Codes, End, At, Fixed, Fresh, Form, PrimitiveAnswer, NumberOrText, OptionalNumber, a_value, form_of, form_at, arguments, parameters_at}
-use Rattle.mid_program.specs.Sorted.{count_of}
+use Rattle.mid_program.specs.Sorted.{count_of, lender_at}
 use Rattle.host_imports.specs.Imports.{import_count}
 use Rattle.lower_model.specs.Places.{Bases, place_of, array_local, array_name, range_global, handle_global, number_global, made_in, handle_local, number_local}
 use Rattle.lower_model.specs.Small.{emit, ask, ask_row, when, emit_if, minus_one, least, text_beside, moved_out, let_go, copied, number_is, kept, kept_code, kept_value, answer_kept, boxed_number, boxed_perhaps, to_value, converted, code_number, truth, unused, released, moved_from, bound_from}
@@ -38,12 +38,13 @@ use Rattle.host_imports.specs.declared.import.VariadicImport.TheVariants as list
 use Rattle.host_imports.specs.declared.import.Import.TheVariants.{Variadic as OverLast, Arg, Drop, FreeArray}
 
 -- What the code of a function is emitted for: the texts in memory, how many ranges there are, the kinds of the names and of the functions'
--- parameters, and where the function's own things stand.
+-- parameters, what lends at their places, and where the function's own things stand.
 pub record Layout : Type 0 where
   pub texts : List (List ℕ)
   pub ranges : ℕ
   pub names : List Kind
   pub calls : List (List Kind)
+  pub lenders : List (Option ℕ)
   pub bases : Bases
 
 -- the functions of a script come after the imports
@@ -121,13 +122,26 @@ module _ (layout : Layout) where
   abbrev pub global_number : ℕ → ℕ
   global_number name = number_global layout.ranges name
 
-  abbrev pub slot_read : Slot → ℕ → Instructions → Instructions
-  slot_read (Global false name) temporary after = copied (GlobalGet (global_handle name)) (GlobalSet (global_handle name)) (handle_local bases temporary) after
-  slot_read (Global true name) temporary after =
+  abbrev pub boxed_read : ℕ → ℕ → Instructions → Instructions
+  boxed_read name temporary after = copied (GlobalGet (global_handle name)) (GlobalSet (global_handle name)) (handle_local bases temporary) after
+
+  abbrev pub unboxed_read : ℕ → ℕ → Instructions → Instructions
+  unboxed_read name temporary after =
       emit (GlobalGet (global_number name)) (emit (LocalTee (number_local bases temporary)) (emit (I64Const text_beside) (emit (Comparing I64 Eq)
-      (when (copied (GlobalGet (global_handle name)) (GlobalSet (global_handle name)) (handle_local bases temporary) Done) after))))
+      (when (boxed_read name temporary Done) after))))
+
+  -- an unboxed parameter; one that has nothing stands for what lends at its place
+  abbrev pub parameter_read : Option ℕ → ℕ → ℕ → Instructions → Instructions
+  parameter_read None place temporary after = emit (LocalGet place) (emit (LocalSet (number_local bases temporary)) after)
+  parameter_read (Some name) place temporary after =
+      emit (LocalGet place) (emit (LocalTee (number_local bases temporary)) (emit (I64Const least) (emit (Comparing I64 Eq)
+      (when (unboxed_read name temporary Done) after))))
+
+  abbrev pub slot_read : Slot → ℕ → Instructions → Instructions
+  slot_read (Global false name) temporary after = boxed_read name temporary after
+  slot_read (Global true name) temporary after = unboxed_read name temporary after
   slot_read (Parameter false place) temporary after = copied (LocalGet place) (LocalSet place) (handle_local bases temporary) after
-  slot_read (Parameter true place) temporary after = emit (LocalGet place) (emit (LocalSet (number_local bases temporary)) after)
+  slot_read (Parameter true place) temporary after = parameter_read (lender_at layout.lenders place) place temporary after
 
   -- the value of a temporary by `put` into a place that is empty: a second handle, where the first stays the answer, or the only one
   abbrev pub handle_stored : (only : Bool) → ℕ → Simple → Instructions → Instructions
@@ -236,9 +250,18 @@ module _ (layout : Layout) where
 
   -- What a call is given. An array that is made for it stays where it can be freed, and its number is lent.
 
+  -- an unboxed parameter is given no text: of what lends its value it is given the number, or nothing
+  abbrev pub lent : Form → ℕ → Instructions → Instructions
+  lent NumberOrText temporary after =
+      number_is (number_local bases temporary) text_beside
+      (when (moved_out (handle_local bases temporary) (ask Drop (emit (I64Const least) (emit (LocalSet (number_local bases temporary)) Done)))) after)
+  lent form temporary after = after
+
   abbrev pub all_given : List Form → List Kind → Codes → ℕ → Instructions → Instructions
   all_given forms (Boxed ∷ kinds) (At code operands) temporary after =
       to_value bases (form_of forms code) temporary (all_given forms kinds operands (suc temporary) after)
+  all_given forms (Unboxed ∷ kinds) (At code operands) temporary after =
+      lent (form_of forms code) temporary (all_given forms kinds operands (suc temporary) after)
   all_given forms (kind ∷ kinds) (At code operands) temporary after = all_given forms kinds operands (suc temporary) after
   all_given forms (kind ∷ kinds) (Fresh operands) temporary after = all_given forms kinds operands temporary after
   all_given forms _ _ temporary after = after

@@ -14,7 +14,7 @@ texts_of program = program.texts ++ announced_names program
 
 abbrev pub layout_of : Program → Bases → Layout
 layout_of program bases =
-    record { texts = texts_of program; ranges = program.ranges; names = kinds_of program.globals; calls = calls_of program; bases = bases }
+    record { texts = texts_of program; ranges = program.ranges; names = kinds_of program.globals; calls = calls_of program; lenders = program.lenders; bases = bases }
 
 abbrev pub routine_bases : Routine → Bases
 routine_bases routine = bases_for routine.parameters routine.body

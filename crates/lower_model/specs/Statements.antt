@@ -21,6 +21,7 @@ use Rattle.wasm_types.specs.declared.instr.IRelOp.TheVariants.{Eq, GtU, LeS, Ne}
 use Rattle.wasm_types.specs.declared.instr.ITestOp.TheVariants.{Eqz}
 use Rattle.wasm_types.specs.declared.instr.CvtOp.TheVariants.{I32WrapI64}
 use Rattle.sem_scripts.specs.Names.{ArrayName}
+use Rattle.mid_program.specs.Sorted.{lender_at}
 use Rattle.mid_program.specs.Mid.{Kind, Boxed, Unboxed, ArrayKind, Parameter, Code, Do, Get, Choose, End, At, Form, PrimitiveAnswer, NumberOrText, OptionalNumber, Step, Eval, Block as Steps_, If as Either, Loop, Each, Break, Continue, Next, Exit, ExitWith, Return, Mark, Steps, NoStep, Then as AndThen, Program, a_value, form_of}
 use Rattle.lower_model.specs.Places.{Bases, way_global, status_global, text_global, range_global, handle_global, answer_local, iterator_local, array_local, handle_local, number_local}
 use Rattle.lower_model.specs.Small.{emit, ask, ask_row, when, emit_if, end_code, text_beside, copied, moved_out, emptied, let_go, fail_if, number_is, least, was_left, kept_code, kept_value, kept_number, kept_done, to_value, number_of_value, to_number}
@@ -90,18 +91,30 @@ module _ (layout : Layout) where
       copied (GlobalGet (handle_global layout.ranges name)) (GlobalSet (handle_global layout.ranges name)) (handle_local bases temporary)
       (number_of_value bases temporary exit after)
 
-  -- of what a holder has that has no number
-  abbrev pub number_found : Holder → (temporary exit : ℕ) → Instructions → Instructions
-  number_found (OfName name) temporary exit after =
+  -- of what a global has that has no number
+  abbrev pub global_found : ℕ → (temporary exit : ℕ) → Instructions → Instructions
+  global_found name temporary exit after =
       number_is (number_local bases temporary) text_beside
       (emit_if (number_there name temporary (suc (suc exit)) Done) (emit (I64Const 0) (emit (LocalSet (number_local bases temporary)) Done)) after)
-  number_found (OfParameter place) temporary exit after = emit (I64Const 0) (emit (LocalSet (number_local bases temporary)) after)
+
+  -- what `read` gives in a temporary, or, where that is no number, what is `found` in its place
+  abbrev pub numbered_or : (read : Simple) (found : Instructions) (temporary : ℕ) → Instructions → Instructions
+  numbered_or read found temporary after =
+      emit read (emit (LocalTee (number_local bases temporary)) (emit (I64Const text_beside) (emit (Comparing I64 LeS) (when found after))))
+
+  -- of a parameter that has none: 0, or the number of what lends at its place
+  abbrev pub parameter_found : Option ℕ → (temporary exit : ℕ) → Instructions → Instructions
+  parameter_found None temporary exit after = emit (I64Const 0) (emit (LocalSet (number_local bases temporary)) after)
+  parameter_found (Some name) temporary exit after =
+      numbered_or (GlobalGet (global_number layout name)) (global_found name temporary (suc exit) Done) temporary after
+
+  abbrev pub number_found : Holder → (temporary exit : ℕ) → Instructions → Instructions
+  number_found (OfName name) temporary exit after = global_found name temporary exit after
+  number_found (OfParameter place) temporary exit after = parameter_found (lender_at layout.lenders place) temporary exit after
 
   -- a name's number in a temporary
   abbrev pub name_numbered : Holder → (temporary exit : ℕ) → Instructions → Instructions
-  name_numbered name temporary exit after =
-      emit (name_read layout name) (emit (LocalTee (number_local bases temporary)) (emit (I64Const text_beside) (emit (Comparing I64 LeS)
-      (when (number_found name temporary exit Done) after))))
+  name_numbered name temporary exit after = numbered_or (name_read layout name) (number_found name temporary exit Done) temporary after
 
   abbrev pub source_numbered : Source → (temporary exit : ℕ) → Instructions → Instructions
   source_numbered (Held name) temporary exit after = name_numbered name temporary exit after
@@ -258,14 +271,19 @@ module _ (layout : Layout) where
   answer_given OptionalNumber exit after = word_given exit after
   answer_given form exit after = constant_given least (suc exit) after
 
-  -- What is chosen is returned where it is chosen: in a block that a quick test leaves, or in an `if`. The number of an unboxed parameter, or the mark that
-  -- it has none, is the answer's word.
+  -- The number of an unboxed parameter, or the mark that it has none, is the answer's word; where a global lends at its place, that mark is not.
+  abbrev pub parameter_returned : Option ℕ → ℕ → (exit : ℕ) → Instructions → Instructions
+  parameter_returned None place exit after = emit (LocalGet place) (emit (LocalSet (answer_local bases)) (emit (Br (suc exit)) after))
+  parameter_returned (Some name) place exit after =
+      emitted layout false [] [] (Get (Parameter true place)) zero zero exit (answer_given NumberOrText exit after)
+
+  -- What is chosen is returned where it is chosen: in a block that a quick test leaves, or in an `if`.
   abbrev pub returned : Code → (exit : ℕ) → Instructions → Instructions
   returned (Choose sort.Value test so otherwise) exit after =
       if is_some (pair_in test)
       then block (left_unless_pair (pair_in test) test (suc exit) zero (returned so (suc exit) Done)) (returned otherwise exit after)
       else tested layout [] [] test zero zero exit (emit_if (returned so (suc exit) Done) (returned otherwise (suc exit) Done) after)
-  returned (Get (Parameter true place)) exit after = emit (LocalGet place) (emit (LocalSet (answer_local bases)) (emit (Br (suc exit)) after))
+  returned (Get (Parameter true place)) exit after = parameter_returned (lender_at layout.lenders place) place exit after
   returned code exit after = emitted layout false [] [] code zero zero exit (answer_given (form_of [] code) exit after)
 
   -- Steps: so many iterators are in use; so many labels are between the code and the function's exit, the place where `break` goes, and the one where

@@ -23,10 +23,10 @@ use Rattle.mid_program.specs.declared.mid.Operation.TheVariants.{Host, Inline, A
 use Rattle.mid_program.specs.MidMeaning.{three_values}
 use Rattle.sem_scripts.specs.Names.{ArrayName, Numbered, Given}
 use Rattle.mid_program.specs.Mid.{Kind, Boxed, Unboxed, ArrayKind, Slot, Global, Parameter, Code, Do, Over, Compare, Call, Ask, AskLine, FileLine, Replace, Number, Text, Unset, Get, Set, Array, IsOpen, Choose, Seq, Let, Bound, Codes, End, At, Fixed, Fresh, Form, PrimitiveAnswer, NumberOrText, a_value, form_of, form_at, arguments, parameters_at}
-use Rattle.mid_program.specs.Sorted.{count_of}
+use Rattle.mid_program.specs.Sorted.{count_of, lender_at}
 use Rattle.lower_model.specs.Arithmetic.{calculated, compared, field_checked, is_value, may_be_text, numbers_compared, texts_beside, values_compared, zeroed_if}
 use Rattle.wasm_types.specs.Instructions.{depths}
-use Rattle.lower_model.specs.Emission.{Layout, Immediate, FieldOf, TextOf, NumberOf, immediate_in, immediate_or, immediate_pushed, added_or, all_appended, all_boxed, all_converted, all_emitted, all_freed, all_given, all_given_pushed, all_pushed, array_meant, array_pushed, asked, assigned, assigned_by_number, dropped, emitted, bound_read, field_in, field_or, handle_stored, keeping_closed, left_over, listed_asked, name_read, one_given, one_pushed, pending_assigned, performed, sequence_closed, slot_read, slot_set, tested, text_kept, text_let_go, text_stored, value_stored}
+use Rattle.lower_model.specs.Emission.{Layout, Immediate, FieldOf, TextOf, NumberOf, immediate_in, immediate_or, immediate_pushed, added_or, all_appended, all_boxed, all_converted, all_emitted, all_freed, all_given, all_given_pushed, all_pushed, array_meant, array_pushed, asked, assigned, assigned_by_number, dropped, emitted, bound_read, field_in, field_or, handle_stored, keeping_closed, left_over, lent, listed_asked, name_read, one_given, one_pushed, parameter_read, pending_assigned, performed, sequence_closed, slot_read, slot_set, tested, text_kept, text_let_go, text_stored, value_stored}
 use Rattle.lower_model.specs.Places.{Bases, made_in}
 use Rattle.lower_model.specs.Quick.{Addition, Holder, addition_in, addition_names, all_unsure, joined}
 use Rattle.lower_model.specs.Small.{answer_kept, bound_from, code_number, converted, emit, emit_if, kept, kept_code, kept_done, kept_number, kept_value, moved_from, released, to_number, to_value, truth, unused}
@@ -157,11 +157,15 @@ module _ (y : Layout) where
     array_deep (Numbered (suc (suc i))) r = record { count = let h = r.count in omega (arith, h) }
     array_deep (Given i) r = record { count = let h = r.count in omega (arith, h) }
 
+    parameter_deep : (lender : Option ℕ) (i t : ℕ) → Deep k m → Deep (parameter_read y lender i t k) m
+    parameter_deep None i t r = record { count = let h = r.count in omega (arith, h) }
+    parameter_deep (Some name) i t r = record { count = let h = r.count in omega (arith, h) }
+
     read_deep : (x : Slot) (t : ℕ) → Deep k m → Deep (slot_read y x t k) m
     read_deep (Global false i) t r = record { count = let h = r.count in omega (arith, h) }
     read_deep (Global true i) t r = record { count = let h = r.count in omega (arith, h) }
     read_deep (Parameter false i) t r = record { count = let h = r.count in omega (arith, h) }
-    read_deep (Parameter true i) t r = record { count = let h = r.count in omega (arith, h) }
+    read_deep (Parameter true i) t r = parameter_deep (lender_at y.lenders i) i t r
 
     handle_deep : (o : Bool) (t : ℕ) (put : Simple) → Deep k m → Deep (handle_stored y o t put k) m
     handle_deep true t put r = record { count = let h = r.count in omega (arith, h) }
@@ -243,8 +247,13 @@ module _ (y : Layout) where
     listed_deep (listed.Print to) c t d r = record { count = let h = r.count in omega (arith, h) }
     listed_deep (listed.Printf to) c t d r = record { count = let h = r.count in omega (arith, h) }
 
+  lent_deep : {k : Instructions} {m : ℕ} (f : Form) (t : ℕ) → Deep k m → Deep (lent y f t k) m
+  lent_deep NumberOrText t r = record { count = let h = r.count in omega (arith, h) }
+  lent_deep f t r = r
+
   given_deep : {k : Instructions} {m : ℕ} (fs : List Form) (ks : List Kind) (es : Codes) (t : ℕ) → Deep k m → Deep (all_given y fs ks es t k) m
   given_deep fs (Boxed ∷ ks) (At e es) t r = to_value_deep b (form_of fs e) t (given_deep fs ks es (suc t) r)
+  given_deep fs (Unboxed ∷ ks) (At e es) t r = lent_deep (form_of fs e) t (given_deep fs ks es (suc t) r)
   given_deep fs (kind ∷ ks) (At e es) t r = given_deep fs ks es (suc t) r
   given_deep fs (kind ∷ ks) (Fresh es) t r = given_deep fs ks es t r
   given_deep fs ks es t r = r

@@ -14,6 +14,7 @@ use Rattle.host_imports.specs.Names.{import_number}
 use Rattle.host_imports.specs.declared.import.Import.TheVariants.{OfPrimitive}
 use Rattle.mid_program.specs.MidMeaning.{three_values}
 use Rattle.mid_program.specs.Mid.{Kind, Boxed, Unboxed, ArrayKind, Slot, Parameter, Code, Do, Over, Compare, Call, Ask, AskLine, FileLine, Replace, Number, Text, Unset, Get, Set, Array, IsOpen, Choose, Seq, Let, Bound, Codes, End, At, Fixed, Fresh, Step, Eval, Block as Steps_, If as Either, Loop, Each, Break, Continue, Next, Exit, ExitWith, Return, Mark, Steps, NoStep, Then as AndThen, Program, Routine, Form, PrimitiveAnswer, NumberOrText, OptionalNumber, a_value, form_of}
+use Rattle.mid_program.specs.Sorted.{lender_at}
 use Rattle.mid_program.specs.declared.mid.Operation.{Operation}
 use Rattle.mid_program.specs.declared.mid.Arithmetic.{Arithmetic}
 use Rattle.mid_program.specs.declared.mid.Operation.TheVariants.{Host, Inline, AsNumber}
@@ -25,7 +26,7 @@ use Rattle.lower_model.specs.Functions.{layout_of, main_bases, main_callee, rout
 use Rattle.lower_model.specs.Places.{Bases, handle_global, handle_local}
 use Rattle.lower_model.specs.Quick.{Addition, Within, addition_in, addition_names, addition_of, test_within, Holder, OfName, OfParameter, holder_of, set_after, set_alone, Source, source_in, Sum, sum_names, sum_op, sum_in, sum_of, two_sum, set_sum, kept_sum, update_sum, old_source, stored_name, new_sum, let_sum, Update, update_in, Tally, tally_in, Remainder, remainder_in, remainder_names, Counted, counted_in, Pair, pair_names, pair_in, step_jumps, is_nothing}
 use Rattle.lower_model.specs.Small.{ask_row, emit, emit_if, kept_value, moved_out, to_value}
-use Rattle.lower_model.specs.Statements.{answer_given, returned, holder_cleared, name_numbered, sum_kept, sum_taken, both_asked, element_numbered, element_given, text_appended, chain_appended, appended_dropped, remainder_dropped, barely_dropped, plainly_dropped, quickly_dropped, left_unless_counted, left_unless_pair, left_unless, again, all_emptied, arrays_emptied, before_parts, block, iterator_left, iterators_emptied, key_stored, left_by, names_declared, names_made, part_done, record_done, records_read, routines_declared, step_emitted, steps_emitted, temporaries_emptied}
+use Rattle.lower_model.specs.Statements.{answer_given, parameter_returned, returned, holder_cleared, name_numbered, sum_kept, sum_taken, both_asked, element_numbered, element_given, text_appended, chain_appended, appended_dropped, remainder_dropped, barely_dropped, plainly_dropped, quickly_dropped, left_unless_counted, left_unless_pair, left_unless, again, all_emptied, arrays_emptied, before_parts, block, iterator_left, iterators_emptied, key_stored, left_by, names_declared, names_made, part_done, record_done, records_read, routines_declared, step_emitted, steps_emitted, temporaries_emptied}
 use Rattle.lower_model.proofs.Chains.{IsChain, one_text, more_texts, append_is, last_appended}
 use Rattle.lower_model.proofs.State.{holder_slot}
 use Rattle.lower_model.proofs.Tallies.{Shape, Updating, Following, Leading, tally_code, tally_is}
@@ -437,9 +438,13 @@ module _ (y : Layout) where
   answer_deep OptionalNumber d r = record { count = let h = r.count in omega (arith, h) }
   answer_deep f d r = record { count = let h = r.count in omega (arith, h) }
 
+  parameter_deep : {k : Instructions} {m : ℕ} (lender : Option ℕ) (i d : ℕ) → Deep k m → Deep (parameter_returned y lender i d k) m
+  parameter_deep None i d r = past _ (past _ (past _ r))
+  parameter_deep (Some name) i d r = emitted_deep y false [] [] (Get (Parameter true i)) zero zero d (answer_deep NumberOrText d r)
+
   returned_deep : {k : Instructions} {m : ℕ} (e : Code) (d : ℕ) → Deep k m → Deep (returned y e d k) m
   returned_deep (Choose sort.Value e a c) d r = one_of (is_some (pair_in e)) (behind_block (returned_deep c d r)) (tested_deep y [] [] e zero zero d (behind_either r))
-  returned_deep (Get (Parameter true i)) d r = past _ (past _ (past _ r))
+  returned_deep (Get (Parameter true i)) d r = parameter_deep (lender_at y.lenders i) i d r
   returned_deep e d r = emitted_deep y false [] [] e zero zero d (answer_deep (form_of [] e) d r)
 
   -- what is chosen for `return`, whose ways are so deep

@@ -1,5 +1,5 @@
 -- Well-sorted code can be emitted where there are few places and labels.
-use Rattle.std.proofs.Common.{◌≡◌, ℕ, suc, ◌+◌, ◌≤◌, Bool, true, false, List, [], ◌∷◌, length, subst, arith, rules}
+use Rattle.std.proofs.Common.{◌≡◌, ℕ, suc, ◌+◌, ◌≤◌, Bool, true, false, List, [], ◌∷◌, Option, length, subst, arith, rules}
 use Rattle.std.specs.Prelude.{◌&&◌, if◌then◌else◌, is_some, nat_lt, not}
 use Rattle.std.proofs.lemmas.Bool.{and_parts, ltb-true}
 use Rattle.sem_primitives.specs.declared.sorts.Sort.TheVariants as sort
@@ -9,7 +9,7 @@ use Rattle.mid_program.specs.MidMeaning.{three_values}
 use Rattle.mid_program.specs.Mid as plain
 use Rattle.sem_scripts.specs.Names.{ArrayName, Numbered, Given}
 use Rattle.mid_program.specs.Mid.{Kind, Boxed, Unboxed, ArrayKind, Slot, Global, Parameter, Code, Do, Over, Compare, Call, Ask, AskLine, FileLine, Replace, Number, Text, Unset, Get, Set, Array, IsOpen, Choose, Seq, Let, Bound, Codes, End, At, Fixed, Fresh, Step, Eval, Block, If, Loop, Each, Break, Continue, Next, Exit, ExitWith, Return, Mark, Steps, NoStep, Then, a_value, arguments, form_of, source_of, parameters_at}
-use Rattle.mid_program.specs.Sorted.{Context, all_sorted, are_missing, all_values, are_enough, fit_call, fit_row, fits, is_array_place, is_chosen, is_done_here, is_dropped, is_kept, is_slot, is_tested, keeps_well, scalar_kind, sorted, step_sorted, steps_sorted, stores_well, takes, test_sorted}
+use Rattle.mid_program.specs.Sorted.{Context, all_sorted, are_missing, all_values, are_enough, fit_call, fit_row, fits, has_lender, is_array_place, is_chosen, is_done_here, is_dropped, is_kept, is_slot, is_tested, keeps_well, lender_at, scalar_kind, sorted, step_sorted, steps_sorted, stores_well, takes, test_sorted}
 use Rattle.lower_model.proofs.Reading.{kind_below}
 use Rattle.lower_model.specs.Emission.{Layout}
 use Rattle.lower_model.specs.Places.{arrays_among, arrays_in, made_in, room, rooms, step_arrays, step_iterators, step_room, steps_arrays, steps_iterators, steps_room}
@@ -68,23 +68,23 @@ values_are_code fs (At e es) h = values_are_code fs es (and_parts _ _ h).1
 values_are_code fs (Fixed n es) h = cc
 values_are_code fs (Fresh es) h = cc
 
-call_is_given : (fs : List plain.Form) (ks : List Kind) (es : Codes) → fit_call fs ks es ≡ true → IsGiven ks es
-call_is_given fs [] End h = tt
-call_is_given fs [] (At e es) h = cc
-call_is_given fs [] (Fixed n es) h = cc
-call_is_given fs [] (Fresh es) h = cc
-call_is_given fs (Boxed ∷ ks) End h = cc
-call_is_given fs (Boxed ∷ ks) (At e es) h = call_is_given fs ks es (and_parts _ _ h).1
-call_is_given fs (Boxed ∷ ks) (Fixed n es) h = cc
-call_is_given fs (Boxed ∷ ks) (Fresh es) h = cc
-call_is_given fs (Unboxed ∷ ks) End h = cc
-call_is_given fs (Unboxed ∷ ks) (At e es) h = call_is_given fs ks es (and_parts _ _ h).1
-call_is_given fs (Unboxed ∷ ks) (Fixed n es) h = cc
-call_is_given fs (Unboxed ∷ ks) (Fresh es) h = cc
-call_is_given fs (ArrayKind ∷ ks) End h = cc
-call_is_given fs (ArrayKind ∷ ks) (At e es) h = call_is_given fs ks es (and_parts _ _ h).1
-call_is_given fs (ArrayKind ∷ ks) (Fixed n es) h = cc
-call_is_given fs (ArrayKind ∷ ks) (Fresh es) h = call_is_given fs ks es h
+call_is_given : (lender : ℕ → Option ℕ) (fs : List plain.Form) (ks : List Kind) (es : Codes) → fit_call lender fs ks es ≡ true → IsGiven ks es
+call_is_given lender fs [] End h = tt
+call_is_given lender fs [] (At e es) h = cc
+call_is_given lender fs [] (Fixed n es) h = cc
+call_is_given lender fs [] (Fresh es) h = cc
+call_is_given lender fs (Boxed ∷ ks) End h = cc
+call_is_given lender fs (Boxed ∷ ks) (At e es) h = call_is_given (λ i. lender (suc i)) fs ks es (and_parts _ _ h).1
+call_is_given lender fs (Boxed ∷ ks) (Fixed n es) h = cc
+call_is_given lender fs (Boxed ∷ ks) (Fresh es) h = cc
+call_is_given lender fs (Unboxed ∷ ks) End h = cc
+call_is_given lender fs (Unboxed ∷ ks) (At e es) h = call_is_given (λ i. lender (suc i)) fs ks es (and_parts _ _ h).1
+call_is_given lender fs (Unboxed ∷ ks) (Fixed n es) h = cc
+call_is_given lender fs (Unboxed ∷ ks) (Fresh es) h = cc
+call_is_given lender fs (ArrayKind ∷ ks) End h = cc
+call_is_given lender fs (ArrayKind ∷ ks) (At e es) h = call_is_given (λ i. lender (suc i)) fs ks es (and_parts _ _ h).1
+call_is_given lender fs (ArrayKind ∷ ks) (Fixed n es) h = cc
+call_is_given lender fs (ArrayKind ∷ ks) (Fresh es) h = call_is_given (λ i. lender (suc i)) fs ks es h
 
 made_within : (es : Codes) → made_in es ≤ arrays_among es
 made_within End = omega arith
@@ -125,12 +125,13 @@ module _ {c : Context} {y : Layout} (n : Named c y) where
           ),
         )
     code_fits fs (Call f es) t w d s r =
-        let s1 = and_parts (nat_lt f (length c.calls)) (fit_call fs (parameters_at c.calls f) es && all_sorted c fs es) s in
-        let s2 = and_parts (fit_call fs (parameters_at c.calls f) es) (all_sorted c fs es) s1.1 in
+        let lender = lender_at c.lenders in
+        let s1 = and_parts (nat_lt f (length c.calls)) (fit_call lender fs (parameters_at c.calls f) es && all_sorted c fs es) s in
+        let s2 = and_parts (fit_call lender fs (parameters_at c.calls f) es) (all_sorted c fs es) s1.1 in
         let few = ltb-true f (length c.calls) s1.0 in
         let all = n.functions in
         let made = made_within es in (
-          subst (λ (cs : List (List Kind)). IsGiven (parameters_at cs f) es) n.calls (call_is_given fs (parameters_at c.calls f) es s2.0),
+          subst (λ (cs : List (List Kind)). IsGiven (parameters_at cs f) es) n.calls (call_is_given lender fs (parameters_at c.calls f) es s2.0),
           (
             omega (arith, few, all),
             (
@@ -141,9 +142,12 @@ module _ {c : Context} {y : Layout} (n : Named c y) where
         )
     code_fits fs Ask t w d s r = within Ask t w d r
     code_fits fs (AskLine e) t w d s r =
-        let s1 = and_parts (stores_well fs e) (sorted c (a_value ∷ fs) e) s in (
+        let x = stores_well fs e in
+        let z = sorted c (a_value ∷ fs) e in
+        let s1 = and_parts (not (has_lender c.lenders)) (x && z) s in
+        let s2 = and_parts x z s1.1 in (
           within (AskLine e) t w d r,
-          code_fits (a_value ∷ fs) e (suc (suc t)) w (suc d) s1.1 (record { places = omega (arith, r.places); arrays = omega (arith, r.arrays); labels = omega (arith, r.labels) }),
+          code_fits (a_value ∷ fs) e (suc (suc t)) w (suc d) s2.1 (record { places = omega (arith, r.places); arrays = omega (arith, r.arrays); labels = omega (arith, r.labels) }),
         )
     code_fits fs (FileLine f e) t w d s r =
         let x = sorted c fs f in

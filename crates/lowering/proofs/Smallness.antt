@@ -1,12 +1,16 @@
 -- The code of a well-sorted script that is small enough can be emitted.
-use Rattle.std.proofs.Common.{◌≡◌, ℕ, zero, suc, ◌+◌, ◌<◌, ◌≤◌, Bool, true, false, List, [], ◌∷◌, ◌++◌, length, map, get_or, drop, drop-cons, refl, sym, ap, ◌∙◌, arith, length-append}
+use Rattle.std.proofs.Common.{◌≡◌, ℕ, zero, suc, ◌+◌, ◌<◌, ◌≤◌, Bool, true, false, List, [], ◌∷◌, ◌++◌, Option, Some, None, length, map, get_or, drop, drop-cons, refl, sym, ap, ◌∙◌, arith, length-append}
 use Rattle.std.specs.Prelude.{◌&&◌}
 use Rattle.std.proofs.lemmas.Bool.{and_parts}
 use Rattle.std.proofs.lemmas.List.{length-map}
-use Rattle.mid_program.specs.Mid.{Kind, Declared, Routine, Program, Steps}
+use Rattle.mid_program.specs.Mid.{Kind, Unboxed, Declared, Routine, Program, Steps}
 use Rattle.mid_program.specs.View.{view_routine}
 use Rattle.mid_program.specs.declared.program.Routine.{Routine as RoutineCode}
-use Rattle.mid_program.specs.Sorted.{announced_names, context_of, parts_sorted, steps_sorted}
+use Rattle.mid_program.specs.Sorted.{all_differ, announced_names, are_lenders, context_of, has_kind, kinds_of, parts_sorted, routines_sorted, steps_sorted, IsSorted}
+use Rattle.mid_program.proofs.Sorted.{from_T}
+use Rattle.lower_model.proofs.QuickNames.{some_is}
+use Rattle.lower_model.proofs.Reading.{kind_below}
+use Rattle.lower_expressions.specs.Fits.{LendersFit}
 use Rattle.lower_model.specs.Functions.{layout_of, main_bases, main_callee, routine_bases, routine_callee}
 use Rattle.lower_model.specs.Machine.{Callee}
 use Rattle.lower_model.specs.Modules.{all_callees}
@@ -20,6 +24,27 @@ use Rattle.lower_modules.specs.declared.function.Function.{Function}
 use Rattle.lowering.specs.Limits.{IsShallow, MainIsSmall, RoutineIsSmall}
 use Rattle.lowering.specs.StepFits.{PartsFit, StepsFit}
 use Rattle.lowering.proofs.Fitting.{Named, steps_fit}
+
+lenders_below : (ks : List Kind) (lenders : List (Option ℕ)) → length ks ≤ most_places → are_lenders ks lenders ≡ true → LendersFit lenders
+lenders_below ks [] le h place name is = cc
+lenders_below ks (None ∷ lenders) le h zero name is = cc
+lenders_below ks (None ∷ lenders) le h (suc place) name is = lenders_below ks lenders le h place name is
+lenders_below ks (Some lender ∷ lenders) le h zero name is =
+    let lt = kind_below ks lender Unboxed (and_parts (has_kind ks lender Unboxed) (are_lenders ks lenders) h).0 in
+    let same = some_is lender name is in
+    omega (arith, lt, same, le)
+lenders_below ks (Some lender ∷ lenders) le h (suc place) name is = lenders_below ks lenders le (and_parts (has_kind ks lender Unboxed) (are_lenders ks lenders) h).1 place name is
+
+-- the names that lend are few enough
+pub lenders_fit : (p : Program) → IsSmall p → IsSorted p → LendersFit p.lenders
+lenders_fit p small sorted =
+    let ks = kinds_of p.globals in
+    let rest = routines_sorted p p.routines && parts_sorted p (context_of p []) in
+    let s1 = and_parts (all_differ (announced_names p)) (are_lenders ks p.lenders && rest) (from_T _ sorted) in
+    let s2 = and_parts (are_lenders ks p.lenders) rest s1.1 in
+    let e = length-map p.globals (λ (d : Declared). d.kind) in
+    let few = small.0 in
+    lenders_below ks p.lenders (omega (arith, e, few)) s2.0
 
 module _ (p : Program) (small : IsSmall p) (few : length p.routines ≤ most_places) where
   named : (ks : List Kind) (b : Bases) → length ks ≤ most_places → Named (context_of p ks) (layout_of p b)

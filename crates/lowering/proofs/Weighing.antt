@@ -211,9 +211,6 @@ module _ (y : Layout) where
       let w = within p (b + i) e (items_first p b i reads (begin.1 few) items.0) (end.0 (emit (Br 1) Done)) in
       omega (arith, w, le)
 
-pub passed : (m n t : ℕ) → m < n → n ≤ t → m < t
-passed m n t a b = omega (arith, a, b)
-
 -- `main` is the last of the functions
 last_least : (fs : List Callee) (f : Callee) → least_in f.body ≤ least_among (fs ++ f ∷ [])
 last_least [] f = omega arith

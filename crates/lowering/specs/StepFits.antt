@@ -2,6 +2,7 @@
 use Rattle.std.specs.Prelude.{ℕ, zero, suc, ◌≤◌, Bool, true, false, not, is_some, Option, Some, None}
 use Rattle.sem_primitives.specs.declared.sorts.Sort.TheVariants as sort
 use Rattle.mid_program.specs.Mid.{Parameter, Code, Get, Choose, Step, Eval, Block, If, Loop, Each, Break, Continue, Next, Exit, ExitWith, Return, Mark, Steps, NoStep, Then, Program}
+use Rattle.mid_program.specs.Sorted.{lender_at}
 use Rattle.lower_pieces.specs.Bounds.{most_places, most_labels}
 use Rattle.lower_model.specs.Emission.{Layout}
 use Rattle.lower_model.specs.Quick.{pair_in, step_jumps}
@@ -32,10 +33,14 @@ abbrev pub choice_in : Code → Option (Code × Code × Code)
 choice_in (Choose sort.Value test so otherwise) = Some (test, so, otherwise)
 choice_in code = None
 
--- the place of an unboxed parameter, whose number is the answer's word
-abbrev pub parameter_in : Code → Option ℕ
-parameter_in (Get (Parameter true place)) = Some place
-parameter_in code = None
+-- the place of an unboxed parameter, whose number is the answer's word where no global lends its value
+abbrev pub unless_lent : (lender : Option ℕ) → ℕ → Option ℕ
+unless_lent None place = Some place
+unless_lent (Some name) place = None
+
+abbrev pub parameter_in : Layout → Code → Option ℕ
+parameter_in layout (Get (Parameter true place)) = unless_lent (lender_at layout.lenders place) place
+parameter_in layout code = None
 
 -- whether the body of a loop stands in a block of its own: where a test comes first, only one that `break` or `continue` leaves
 abbrev pub has_block : (first : Bool) → Step → Bool
@@ -45,7 +50,7 @@ has_block false body = true
 -- with so many iterators in use and so many labels around
 abbrev mutual
   pub StepFits : Layout → Step → (iterators exit : ℕ) → Type 0
-  StepFits layout (Eval code) iterators exit = (suc (suc (suc exit)) ≤ most_labels) × Fits layout code zero zero exit
+  StepFits layout (Eval code) iterators exit = (suc (suc (suc (suc exit))) ≤ most_labels) × Fits layout code zero zero exit
   StepFits layout (Block steps) iterators exit = StepsFit layout steps iterators exit
   StepFits layout (If test so otherwise) iterators exit =
       ChoiceFits layout test exit

@@ -142,7 +142,7 @@ fn remainder_done(
 
 /// Adds a sum that a name takes: by the module itself where all numbers are near.
 fn sum_done(layout: &FunctionLayout<'_>, out: &mut Emitted, sum: Sum, exit: u32)
-    requires labels { suc (suc (suc exit)) ≤ most_labels }
+    requires labels { suc (suc (suc (suc exit))) ≤ most_labels }
     requires sum { SumFits (view_sum sum) }
     ensures { Emits out.old out.new
         (sum_done (view_layout layout.now) (view_sum sum) exit) }
@@ -169,7 +169,7 @@ fn appended_done(layout: &FunctionLayout<'_>, out: &mut Emitted, code: &Code, ex
 
 /// Adds code for what it does alone, where nothing is kept.
 pub(crate) fn done(layout: &FunctionLayout<'_>, out: &mut Emitted, code: &Code, exit: u32)
-    requires labels { suc (suc (suc exit)) ≤ most_labels }
+    requires labels { suc (suc (suc (suc exit))) ≤ most_labels }
     requires fit { Fits (view_layout layout.now) (view code.now) 0 0 exit }
     ensures { Emits out.old out.new
         (quickly_dropped (view_layout layout.now) (sum_in (view code.now)) (view code.now) exit) }

@@ -113,12 +113,16 @@ fn choice_in(code: &Code) -> Option<(&Code, &Code, &Code)>
     }
 }
 
-/// The place of an unboxed parameter, if that is what code reads.
-fn parameter_in(code: &Code) -> Option<usize>
-    ensures { result ≡ parameter_in (view code.now) }
+/// The place of an unboxed parameter, if that is what code reads and no global lends its value
+/// there.
+fn parameter_in(layout: &FunctionLayout<'_>, code: &Code) -> Option<usize>
+    ensures { result ≡ parameter_in (view_layout layout.now) (view code.now) }
 {
     match code {
-        Code::Get(Slot::Parameter(true, place)) => Some(*place),
+        Code::Get(Slot::Parameter(true, place)) => match layout.script.lender(*place) {
+            Some(_) => None,
+            None => Some(*place),
+        },
         _ => None,
     }
 }
@@ -207,7 +211,7 @@ fn plainly_returned(layout: &FunctionLayout<'_>, out: &mut Emitted, code: &Code,
 }
 
 /// Adds `return`: what is chosen is returned where it is chosen, and the number of an unboxed
-/// parameter from where it is.
+/// parameter from where it is, unless a global lends its value there.
 #[cycle(returned)]
 pub(crate) fn returned(layout: &FunctionLayout<'_>, out: &mut Emitted, code: &Code, exit: u32)
     requires { ReturnFits (view_layout layout.now) (view code.now) exit }
@@ -216,7 +220,7 @@ pub(crate) fn returned(layout: &FunctionLayout<'_>, out: &mut Emitted, code: &Co
 {
     match choice_in(code) {
         Some((test, yes, no)) => chosen_returned(layout, out, test, yes, no, exit),
-        None => match parameter_in(code) {
+        None => match parameter_in(layout, code) {
             Some(place) => local_given(layout, out, place as u32, exit),
             None => plainly_returned(layout, out, code, exit),
         },

@@ -10,10 +10,11 @@ ghost use Rattle.lower_pieces.specs.Bounds.{most_places};
 ghost use Rattle.lower_modules.specs.Lengths.{least_in};
 ghost use Rattle.lower_modules.specs.Limits.{most_bytes, IsTooLarge};
 ghost use Rattle.lower_modules.specs.View.{view_function, view_functions};
+ghost use Rattle.lower_expressions.specs.Fits.{LendersFit};
 ghost use Rattle.lowering.specs.Limits.{AreSmallEnough, MainIsSmall, RoutineIsSmall};
 ghost use Rattle.wasm_types.specs.View.{view_module};
 
-use crate::lengths::{MOST_BYTES, main_length};
+use crate::lengths::is_too_long;
 use crate::lists::pushed;
 use crate::main_parts::main_code;
 use crate::routines::routine_code;
@@ -65,6 +66,7 @@ fn routine_function(
     routine: &Routine,
 ) -> Result<Function, LowerFault>
     requires few { length (view_mid layout.now.program.now).routines ≤ most_places }
+    requires lenders { LendersFit layout.now.program.now.lenders.items }
     requires sorted { steps_sorted (context_of (view_mid layout.now.program.now)
         (view_routine routine.now).parameters) true false (view_routine routine.now).body ≡ true }
     ensures function { IfOk result (λ made. view_function made
@@ -110,6 +112,7 @@ fn small_main(mid: &Mid) -> Option<Needs>
 /// `main`.
 fn main_function(alloc: Global, layout: &Layout<'_>) -> Result<Function, LowerFault>
     requires few { length (view_mid layout.now.program.now).routines ≤ most_places }
+    requires lenders { LendersFit layout.now.program.now.lenders.items }
     requires sorted { parts_sorted (view_mid layout.now.program.now)
         (context_of (view_mid layout.now.program.now) []) ≡ true }
     ensures function { IfOk result
@@ -128,7 +131,7 @@ fn main_function(alloc: Global, layout: &Layout<'_>) -> Result<Function, LowerFa
         script: layout,
         bases: &bases,
     };
-    if main_length(&function_layout)? > MOST_BYTES {
+    if is_too_long(&function_layout)? {
         return Err(LowerFault::TooLarge);
     }
     let body = main_code(&function_layout)?;
@@ -144,6 +147,7 @@ fn main_function(alloc: Global, layout: &Layout<'_>) -> Result<Function, LowerFa
 /// The functions of a script, without `main`.
 fn routine_functions(alloc: Global, layout: &Layout<'_>) -> Result<Vec<Function>, LowerFault>
     requires few { length (view_mid layout.now.program.now).routines ≤ most_places }
+    requires lenders { LendersFit layout.now.program.now.lenders.items }
     requires sorted { routines_sorted (view_mid layout.now.program.now)
         (view_mid layout.now.program.now).routines ≡ true }
     ensures functions { IfOk result (λ made. view_functions made.items ≡ map (routine_callee

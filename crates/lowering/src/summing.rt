@@ -1,11 +1,12 @@
 //! Sums in all cases: a name's number may not be there yet, or be that of the text beside it.
-ghost use Rattle.std.specs.Prelude.{◌≤◌, None, suc};
+ghost use Rattle.std.specs.Prelude.{◌≤◌, None, Some, suc};
+ghost use Rattle.wasm_types.specs.Syntax.{Instructions, Done};
 ghost use Rattle.mid_program.specs.ViewCode.{view};
-ghost use Rattle.lower_model.specs.Quick.{OfName, sum_op};
-ghost use Rattle.lower_model.specs.Statements.{holder_cleared, name_numbered, number_found, number_there, source_numbered, source_taken, sum_kept, sum_taken, summed_anyway, both_asked, updated};
+ghost use Rattle.lower_model.specs.Quick.{OfParameter, sum_op};
+ghost use Rattle.lower_model.specs.Statements.{global_found, holder_cleared, name_numbered, number_found, number_there, numbered_or, parameter_found, source_numbered, source_taken, sum_kept, sum_taken, summed_anyway, both_asked, updated};
 ghost use Rattle.lower_model.specs.Emission.{field_at};
 ghost use Rattle.lower_pieces.specs.Bounds.{most_labels, most_places};
-ghost use Rattle.lower_pieces.specs.Emits.{Emits};
+ghost use Rattle.lower_pieces.specs.Emits.{Emits, Reads};
 ghost use Rattle.lower_expressions.specs.Fits.{Fits};
 ghost use Rattle.lower_expressions.specs.Sources.{HolderFits, SourceFits};
 ghost use Rattle.lower_expressions.specs.View.{view_layout};
@@ -17,7 +18,9 @@ use crate::evaluating::answered;
 use crate::quick::name_put;
 use awk_text::MAX_NUMBER;
 use awk_values::Fault;
-use lower_expressions::{FunctionLayout, field_at, global_handle, name_read, sum_op, text_dropped};
+use lower_expressions::{
+    FunctionLayout, field_at, global_handle, global_number, name_read, sum_op, text_dropped,
+};
 use lower_pieces::{
     Emitted, Form, TEXT_BESIDE, code_of, copied_by, emit, emit_all, emit_if, fail_if, number_is,
     row_call, to_number, when,
@@ -47,8 +50,8 @@ fn number_there(
     to_number(layout.alloc, layout.bases, out, value, temporary, exit + 2);
 }
 
-/// Makes a number of what a name has that has none, from within one label more: what is no number yet is 0.
-fn name_found(
+/// Makes a number of what a global has that has none, from within one label more: what is no number yet is 0.
+fn global_found(
     layout: &FunctionLayout<'_>,
     out: &mut Emitted,
     name: usize,
@@ -59,7 +62,7 @@ fn name_found(
     requires places { temporary ≤ most_places }
     requires labels { suc (suc exit) ≤ most_labels }
     ensures { Emits out.old out.new
-        (number_found (view_layout layout.now) (OfName name) temporary exit) }
+        (global_found (view_layout layout.now) name temporary exit) }
 {
     let local = layout.bases.number(temporary);
     number_is(out, local, TEXT_BESIDE);
@@ -70,7 +73,71 @@ fn name_found(
     emit_if(layout.alloc, out, some, none);
 }
 
-/// The same of a parameter too, beside which no text stands.
+/// Puts what is read into a temporary, or what is found in its place, where that is no number.
+fn numbered_or(
+    layout: &FunctionLayout<'_>,
+    out: &mut Emitted,
+    read: Simple,
+    found: Emitted,
+    temporary: u32,
+)
+    requires { temporary ≤ most_places }
+    ensures { (inside : Instructions) → Reads found Done inside
+        → Emits out.old out.new (numbered_or (view_layout layout.now) read inside temporary) }
+{
+    let all = [
+        read,
+        Simple::LocalTee(layout.bases.number(temporary)),
+        Simple::I64Const(TEXT_BESIDE),
+        Simple::Compare(ValType::I64, IRelOp::LeS),
+    ];
+    emit_all(out, &all);
+    when(layout.alloc, out, found);
+}
+
+/// Makes a number of what lends its value, from within one label more.
+fn lender_found(
+    layout: &FunctionLayout<'_>,
+    out: &mut Emitted,
+    name: usize,
+    temporary: u32,
+    exit: u32,
+)
+    requires name { name ≤ most_places }
+    requires places { temporary ≤ most_places }
+    requires labels { suc (suc (suc exit)) ≤ most_labels }
+    ensures { Emits out.old out.new
+        (parameter_found (view_layout layout.now) (Some name) temporary exit) }
+{
+    let mut found = Emitted::new(layout.alloc);
+    global_found(layout, &mut found, name, temporary, exit + 1);
+    let read = Simple::GlobalGet(global_number(layout, name));
+    numbered_or(layout, out, read, found, temporary);
+}
+
+/// Makes a number of what a parameter has that has none, from within one label more: that of what lends at its place, or 0.
+fn parameter_found(
+    layout: &FunctionLayout<'_>,
+    out: &mut Emitted,
+    place: usize,
+    temporary: u32,
+    exit: u32,
+)
+    requires places { temporary ≤ most_places }
+    requires labels { suc (suc (suc exit)) ≤ most_labels }
+    ensures { Emits out.old out.new
+        (number_found (view_layout layout.now) (OfParameter place) temporary exit) }
+{
+    match layout.script.lender(place) {
+        Some(name) => lender_found(layout, out, name, temporary, exit),
+        None => {
+            let local = layout.bases.number(temporary);
+            emit_all(out, &[Simple::I64Const(0), Simple::LocalSet(local)]);
+        }
+    }
+}
+
+/// Makes a number of what a name has that has none, from within one label more.
 fn number_found(
     layout: &FunctionLayout<'_>,
     out: &mut Emitted,
@@ -80,16 +147,13 @@ fn number_found(
 )
     requires name { HolderFits (view_holder name) }
     requires places { temporary ≤ most_places }
-    requires labels { suc (suc exit) ≤ most_labels }
+    requires labels { suc (suc (suc exit)) ≤ most_labels }
     ensures { Emits out.old out.new
         (number_found (view_layout layout.now) (view_holder name) temporary exit) }
 {
     match name {
-        Holder::Name(name) => name_found(layout, out, name, temporary, exit),
-        Holder::Parameter(_) => {
-            let local = layout.bases.number(temporary);
-            emit_all(out, &[Simple::I64Const(0), Simple::LocalSet(local)]);
-        }
+        Holder::Name(name) => global_found(layout, out, name, temporary, exit),
+        Holder::Parameter(place) => parameter_found(layout, out, place, temporary, exit),
     }
 }
 
@@ -103,20 +167,13 @@ fn name_numbered(
 )
     requires name { HolderFits (view_holder name) }
     requires places { temporary ≤ most_places }
-    requires labels { suc (suc exit) ≤ most_labels }
+    requires labels { suc (suc (suc exit)) ≤ most_labels }
     ensures { Emits out.old out.new
         (name_numbered (view_layout layout.now) (view_holder name) temporary exit) }
 {
-    let all = [
-        name_read(layout, name),
-        Simple::LocalTee(layout.bases.number(temporary)),
-        Simple::I64Const(TEXT_BESIDE),
-        Simple::Compare(ValType::I64, IRelOp::LeS),
-    ];
-    emit_all(out, &all);
-    let mut code = Emitted::new(layout.alloc);
-    number_found(layout, &mut code, name, temporary, exit);
-    when(layout.alloc, out, code);
+    let mut found = Emitted::new(layout.alloc);
+    number_found(layout, &mut found, name, temporary, exit);
+    numbered_or(layout, out, name_read(layout, name), found, temporary);
 }
 
 /// The same of a source: a constant needs no temporary.
@@ -129,7 +186,7 @@ fn source_numbered(
 )
     requires fits { SourceFits (view_source source) }
     requires places { temporary ≤ most_places }
-    requires labels { suc (suc exit) ≤ most_labels }
+    requires labels { suc (suc (suc exit)) ≤ most_labels }
     ensures { Emits out.old out.new
         (source_numbered (view_layout layout.now) (view_source source) temporary exit) }
 {
@@ -206,7 +263,7 @@ fn sum_taken(layout: &FunctionLayout<'_>, out: &mut Emitted, op: IBinOp, name: H
 /// Adds a sum of sources.
 pub(crate) fn summed_anyway(layout: &FunctionLayout<'_>, out: &mut Emitted, sum: Sum, exit: u32)
     requires sum { SumFits (view_sum sum) }
-    requires labels { suc (suc exit) ≤ most_labels }
+    requires labels { suc (suc (suc exit)) ≤ most_labels }
     ensures { Emits out.old out.new
         (summed_anyway (view_layout layout.now) (view_sum sum) exit) }
 {
@@ -220,7 +277,7 @@ pub(crate) fn summed_anyway(layout: &FunctionLayout<'_>, out: &mut Emitted, sum:
 /// Asks for the number of a name, and for that of the field with this number; both are put on the stack.
 fn field_asked(layout: &FunctionLayout<'_>, out: &mut Emitted, name: Holder, number: i64, exit: u32)
     requires name { HolderFits (view_holder name) }
-    requires labels { suc (suc exit) ≤ most_labels }
+    requires labels { suc (suc (suc exit)) ≤ most_labels }
     ensures { Emits out.old out.new
         (field_asked (view_layout layout.now) (view_holder name) number exit) }
 {
@@ -238,7 +295,7 @@ fn field_asked(layout: &FunctionLayout<'_>, out: &mut Emitted, name: Holder, num
 fn added_asked(layout: &FunctionLayout<'_>, out: &mut Emitted, update: Update<'_>, exit: u32)
     requires name { HolderFits (view_holder update.name) }
     requires fit { Fits (view_layout layout.now) (view update.added.now) 0 0 exit }
-    requires labels { suc (suc exit) ≤ most_labels }
+    requires labels { suc (suc (suc exit)) ≤ most_labels }
     ensures { Emits out.old out.new
         (both_asked (view_layout layout.now) None (view_update update.entry) exit) }
 {
@@ -256,7 +313,7 @@ fn added_asked(layout: &FunctionLayout<'_>, out: &mut Emitted, update: Update<'_
 fn both_asked(layout: &FunctionLayout<'_>, out: &mut Emitted, update: Update<'_>, exit: u32)
     requires name { HolderFits (view_holder update.name) }
     requires fit { Fits (view_layout layout.now) (view update.added.now) 0 0 exit }
-    requires labels { suc (suc exit) ≤ most_labels }
+    requires labels { suc (suc (suc exit)) ≤ most_labels }
     ensures { Emits out.old out.new (both_asked (view_layout layout.now)
         (field_at (view update.entry.added.now)) (view_update update.entry) exit) }
 {
@@ -271,7 +328,7 @@ pub(crate) fn updated(layout: &FunctionLayout<'_>, out: &mut Emitted, update: Up
     requires target { HolderFits (view_holder update.target) }
     requires name { HolderFits (view_holder update.name) }
     requires fit { Fits (view_layout layout.now) (view update.added.now) 0 0 exit }
-    requires labels { suc (suc exit) ≤ most_labels }
+    requires labels { suc (suc (suc exit)) ≤ most_labels }
     ensures { Emits out.old out.new
         (updated (view_layout layout.now) (view_update update.entry) exit) }
 {

@@ -14,6 +14,7 @@ ghost use Rattle.mid_code.specs.ViewScript.{view_script_code};
 use crate::bodies::{bodies, body_at};
 use crate::fallible::{all_three, push, push_made};
 use crate::item::{Actions, code_of_items, reads_records};
+use crate::lenders::none_lend;
 use crate::names::Names;
 use crate::scope::Scope;
 use crate::statement::steps;
@@ -121,7 +122,7 @@ fn routines(
     Ok(found)
 }
 
-/// A script's code without its texts.
+/// A script's code without its texts and its lenders.
 #[derive(Drop)]
 struct ScriptCode {
     globals: Vec<Declared>,
@@ -175,9 +176,10 @@ fn script_code(
     code_by_names(alloc, &names, texts, bodies)
 }
 
-fn with_texts(texts: IndexSet<Vec<u8>>, code: ScriptCode) -> Mid
-    ensures { view_mid result ≡ view_script_code (view_texts texts.keys) code }
+fn with_texts(alloc: Global, texts: IndexSet<Vec<u8>>, code: ScriptCode) -> Result<Mid, AllocError>
+    ensures { IfOk result (λ mid. view_mid mid ≡ view_script_code (view_texts texts.keys) code) }
 {
+    let lenders = none_lend(alloc, &code.routines)?;
     let ScriptCode {
         globals,
         routines,
@@ -190,8 +192,9 @@ fn with_texts(texts: IndexSet<Vec<u8>>, code: ScriptCode) -> Mid
         end,
         ranges,
     } = actions;
-    Mid {
+    Ok(Mid {
         texts,
+        lenders,
         globals,
         routines,
         ranges,
@@ -199,7 +202,7 @@ fn with_texts(texts: IndexSet<Vec<u8>>, code: ScriptCode) -> Mid
         reads,
         items: each,
         end,
-    }
+    })
 }
 
 /// The mid code of a script: at each job, input, outside and number of turns it ends as the script does, with the same output.
@@ -214,5 +217,5 @@ pub fn to_mid(alloc: Global, resolved: &Resolved<'_>) -> Result<Mid, AllocError>
     let bodies = bodies(alloc, resolved.script)?;
     let texts = texts_of(alloc, resolved, &bodies)?;
     let code = script_code(alloc, resolved, &texts, &bodies)?;
-    Ok(with_texts(texts, code))
+    with_texts(alloc, texts, code)
 }

@@ -5,3 +5,4 @@ pub mod Congruence
 pub mod Runs
 pub mod Sorted
 pub mod Joining
+pub mod Lenders

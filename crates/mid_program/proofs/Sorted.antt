@@ -1,5 +1,5 @@
 -- Code whose names and operations are written anew is well sorted where the code was.
-use Rattle.std.proofs.Common.{◌≡◌, ℕ, zero, suc, Bool, true, false, T, ◌&&◌, nat_le, nat_lt, List, [], ◌∷◌, ◌++◌, length, map, Option, Some, None, refl, sym, ap, ◌∙◌}
+use Rattle.std.proofs.Common.{◌≡◌, ℕ, zero, suc, Bool, true, false, not, T, ◌&&◌, nat_le, nat_lt, List, [], ◌∷◌, ◌++◌, length, map, Option, Some, None, refl, sym, ap, ◌∙◌}
 use Rattle.std.proofs.lemmas.Bool.{and_parts, and_from}
 use Rattle.std.proofs.lemmas.List.{length-map}
 use Rattle.sem_primitives.specs.declared.sorts.Sort.{Sort}
@@ -10,10 +10,10 @@ use Rattle.sem_primitives.specs.InTurn.{values_wanted}
 use Rattle.sem_scripts.specs.Names.{ArrayName}
 use Rattle.mid_program.specs.declared.mid.Operation.{Operation}
 use Rattle.mid_program.specs.Mid.{Kind, Boxed, Unboxed, ArrayKind, Slot, Global, Parameter, Code, Do, Over, Compare, Call, Ask, AskLine, FileLine, Replace, Number, Text, Unset, Get, Set, Array, IsOpen, Choose, Seq, Let, Bound, Codes, End, At, Fixed, Fresh, Step, Eval, Block, If, Loop, Each, Break, Continue, Next, Exit, ExitWith, Return, Mark, Steps, NoStep, Then, Form, PrimitiveAnswer, NumberOrText, OptionalNumber, a_value, read_form, slot_form, form_at, form_of, source_of, answer_by, arguments, parameters_at}
-use Rattle.mid_program.specs.Sorted.{Context, fits, is_number, is_tested, is_dropped, is_slot, takes, is_array_place, is_constant, fit_row, all_values, count_of, is_given, fit_call, Held, There, either_way, held_after, held_after_all, is_bound, is_well_used, keeps_well, stores_well, are_missing, sorted, all_sorted, step_sorted, steps_sorted}
+use Rattle.mid_program.specs.Sorted.{Context, lender_at, has_lender, fits, is_number, is_tested, is_dropped, is_slot, takes, is_array_place, is_constant, fit_row, all_values, count_of, is_given, fit_call, Held, There, either_way, held_after, held_after_all, is_bound, is_well_used, keeps_well, stores_well, are_missing, sorted, all_sorted, step_sorted, steps_sorted}
 use Rattle.mid_program.specs.Alike.{erased}
 use Rattle.mid_program.specs.Rewriting.{code_in, codes_in, step_in, steps_in}
-use Rattle.mid_program.specs.Stores.{Store, Into, Given, Every, stores, stores_in, stores_given, step_stores, steps_stores}
+use Rattle.mid_program.specs.Stores.{Store, Into, Given, Asked, Every, stores, stores_in, stores_given, step_stores, steps_stores}
 
 pub from_T : (b : Bool) → T b → b ≡ true
 from_T true t = refl
@@ -53,12 +53,13 @@ dropped_erased (PrimitiveAnswer a) = refl
 dropped_erased NumberOrText = refl
 dropped_erased OptionalNumber = refl
 
-given_erased : (k : Kind) (f : Form) → is_given f k ≡ is_given (erased f) k
-given_erased k (PrimitiveAnswer a) = refl
-given_erased Boxed NumberOrText = refl
-given_erased Unboxed NumberOrText = refl
-given_erased ArrayKind NumberOrText = refl
-given_erased k OptionalNumber = refl
+given_erased : (l : Option ℕ) (o : Option Slot) (k : Kind) (f : Form) → is_given l o f k ≡ is_given l o (erased f) k
+given_erased l o k (PrimitiveAnswer a) = refl
+given_erased l o Boxed NumberOrText = refl
+given_erased None o Unboxed NumberOrText = refl
+given_erased (Some g) o Unboxed NumberOrText = refl
+given_erased l o ArrayKind NumberOrText = refl
+given_erased l o k OptionalNumber = refl
 
 form_at_erased : (fs gs : List Form) → map erased fs ≡ map erased gs → (i : ℕ) → erased (form_at fs i) ≡ erased (form_at gs i)
 form_at_erased fs gs h i = erased_at fs i ∙ ap (λ (es : List Form). form_at es i) h ∙ sym (erased_at gs i)
@@ -92,6 +93,13 @@ abbrev pub copy_of : (slots : Slot → Slot) → Option Slot → Option Slot
 copy_of slots None = None
 copy_of slots (Some x) = Some (slots x)
 
+-- arguments, each a copy of what stands for the name that it was a copy of
+abbrev pub fit_copied : (slots : Slot → Slot) → (lender : ℕ → Option ℕ) → List Form → List Kind → Codes → Bool
+fit_copied slots lender fs [] End = true
+fit_copied slots lender fs (k ∷ ks) (At e es) = is_given (lender zero) (copy_of slots (source_of e)) (form_of fs e) k && fit_copied slots (λ i. lender (suc i)) fs ks es
+fit_copied slots lender fs (ArrayKind ∷ ks) (Fresh es) = fit_copied slots (λ i. lender (suc i)) fs ks es
+fit_copied slots lender fs _ _ = false
+
 -- what may be named stays there, and may take what is stored, of which P is known; what stands for an operation is well sorted
 pub record Stays (slots : Slot → Slot) (operation : Operation → Codes → Code) (P : Store → Type 0) (c d : Context) : Type 0 where
   pub texts : c.texts ≡ d.texts
@@ -99,8 +107,10 @@ pub record Stays (slots : Slot → Slot) (operation : Operation → Codes → Co
   pub calls : length d.calls ≡ length c.calls
   pub slot : (x : Slot) → is_slot c x ≡ true → is_slot d (slots x) ≡ true
   pub array : (a : ArrayName) → is_array_place c a ≡ true → is_array_place d a ≡ true
+  pub asks : not (has_lender c.lenders) ≡ true → P Asked → not (has_lender d.lenders) ≡ true
   pub stored : (x : Slot) (o : Option Slot) (f g : Form) → erased f ≡ erased g → takes c x o f ≡ true → P (Into x o f) → takes d (slots x) (copy_of slots o) g ≡ true
-  pub given : (f : ℕ) (fs : List Form) (es : Codes) → fit_call fs (parameters_at c.calls f) es ≡ true → Every P (stores_given f 0 fs es) → fit_call fs (parameters_at d.calls f) es ≡ true
+  pub given : (f : ℕ) (fs : List Form) (es : Codes) → fit_call (lender_at c.lenders) fs (parameters_at c.calls f) es ≡ true → Every P (stores_given f 0 fs es) →
+      fit_copied slots (lender_at d.lenders) fs (parameters_at d.calls f) es ≡ true
   pub does : (fs : List Form) (o : Operation) (es : Codes) → sorted d fs (Do o es) ≡ true → sorted d fs (operation o es) ≡ true
 
 module _ (slots : Slot → Slot) (operation : Operation → Codes → Code) (K : Keeps slots operation) where
@@ -213,19 +223,22 @@ module _ (slots : Slot → Slot) (operation : Operation → Codes → Code) (K :
     values_kept (Fixed n es) = refl
     values_kept (Fresh es) = refl
 
-    call_kept : (ks : List Kind) (es : Codes) → fit_call hs ks (res es) ≡ fit_call fs ks es
-    call_kept [] End = refl
-    call_kept [] (At e es) = refl
-    call_kept [] (Fixed n es) = refl
-    call_kept [] (Fresh es) = refl
-    call_kept (x ∷ ks) End = refl
-    call_kept (x ∷ ks) (At e es) = λ i. by_form (λ f. is_given f x) (given_erased x) e i && call_kept ks es i
-    call_kept (Boxed ∷ ks) (Fixed n es) = refl
-    call_kept (Unboxed ∷ ks) (Fixed n es) = refl
-    call_kept (ArrayKind ∷ ks) (Fixed n es) = refl
-    call_kept (Boxed ∷ ks) (Fresh es) = refl
-    call_kept (Unboxed ∷ ks) (Fresh es) = refl
-    call_kept (ArrayKind ∷ ks) (Fresh es) = call_kept ks es
+    call_kept : (lender : ℕ → Option ℕ) (ks : List Kind) (es : Codes) → fit_call lender hs ks (res es) ≡ fit_copied slots lender fs ks es
+    call_kept lender [] End = refl
+    call_kept lender [] (At e es) = refl
+    call_kept lender [] (Fixed n es) = refl
+    call_kept lender [] (Fresh es) = refl
+    call_kept lender (x ∷ ks) End = refl
+    call_kept lender (x ∷ ks) (At e es) =
+        let first = ap (λ o. is_given (lender zero) o (form_of hs (re e)) x) (sym (source_kept e))
+        ∙ by_form (λ f. is_given (lender zero) (copy_of slots (source_of e)) f x) (given_erased (lender zero) (copy_of slots (source_of e)) x) e in
+        λ i. first i && call_kept (λ j. lender (suc j)) ks es i
+    call_kept lender (Boxed ∷ ks) (Fixed n es) = refl
+    call_kept lender (Unboxed ∷ ks) (Fixed n es) = refl
+    call_kept lender (ArrayKind ∷ ks) (Fixed n es) = refl
+    call_kept lender (Boxed ∷ ks) (Fresh es) = refl
+    call_kept lender (Unboxed ∷ ks) (Fresh es) = refl
+    call_kept lender (ArrayKind ∷ ks) (Fresh es) = call_kept (λ j. lender (suc j)) ks es
 
     store_kept : (e : Code) → stores_well hs (re e) ≡ stores_well fs e
     store_kept e = λ i. keeps_same e i && by_erased is_dropped dropped_erased (form_of (a_value ∷ fs) e) (form_of (a_value ∷ hs) (re e)) (form_kept (a_value ∷ fs) (a_value ∷ hs) (λ j. a_value ∷ k j) e) i
@@ -250,10 +263,11 @@ module _ (slots : Slot → Slot) (operation : Operation → Codes → Code) (K :
       sorted_kept fs hs k (Call f es) h v =
           let p = and_parts _ _ h in let q = and_parts _ _ p.1 in
           and_from _ _ (ap (nat_lt f) S.calls ∙ p.0)
-          (and_from _ _ (call_kept fs hs k (parameters_at d.calls f) es ∙ S.given f fs es q.0 v) (all_kept_given fs hs k f 0 es q.1 v))
-      sorted_kept fs hs k Ask h v = refl
+          (and_from _ _ (call_kept fs hs k (lender_at d.lenders) (parameters_at d.calls f) es ∙ S.given f fs es q.0 v) (all_kept_given fs hs k f 0 es q.1 v))
+      sorted_kept fs hs k Ask h v = S.asks h v.0
       sorted_kept fs hs k (AskLine s) h v =
-          let p = and_parts _ _ h in and_from _ _ (store_kept fs hs k s ∙ p.0) (sorted_kept (a_value ∷ fs) (a_value ∷ hs) (λ j. a_value ∷ k j) s p.1 v)
+          let p = and_parts _ _ h in let q = and_parts _ _ p.1 in
+          and_from _ _ (S.asks p.0 v.0) (and_from _ _ (store_kept fs hs k s ∙ q.0) (sorted_kept (a_value ∷ fs) (a_value ∷ hs) (λ j. a_value ∷ k j) s q.1 v.1))
       sorted_kept fs hs k (FileLine e s) h v =
           let p = and_parts _ _ h in let q = and_parts _ _ p.1 in let r = and_parts _ _ q.1 in let w = every_parts P (stores fs e) (stores (a_value ∷ fs) s) v in
           and_from _ _ (fits_kept fs hs k sort.Value e ∙ p.0)
@@ -297,7 +311,7 @@ module _ (slots : Slot → Slot) (operation : Operation → Codes → Code) (K :
       all_kept_given : (fs hs : List Form) → map erased fs ≡ map erased hs → (f i : ℕ) (es : Codes) → all_sorted c fs es ≡ true → Every P (stores_given f i fs es) → all_sorted d hs (res es) ≡ true
       all_kept_given fs hs k f i End h v = refl
       all_kept_given fs hs k f i (At e es) h v =
-          let p = and_parts _ _ h in let w = every_parts P (stores fs e) (Given f i (form_of fs e) ∷ stores_given f (suc i) fs es) v in
+          let p = and_parts _ _ h in let w = every_parts P (stores fs e) (Given f i (source_of e) (form_of fs e) ∷ stores_given f (suc i) fs es) v in
           and_from _ _ (sorted_kept fs hs k e p.0 w.0) (all_kept_given fs hs k f (suc i) es p.1 w.1.1)
       all_kept_given fs hs k f i (Fixed n es) h v = all_kept_given fs hs k f (suc i) es h v
       all_kept_given fs hs k f i (Fresh es) h v = let p = and_parts (are_missing es) _ h in and_from _ _ (missing_kept es p.0) (all_kept_given fs hs k f (suc i) es p.1 v)

@@ -109,6 +109,9 @@ pub record Routine : Type 0 where
 
 pub record Program : Type 0 where
   pub texts : List (List ℕ)
+  -- by the places of parameters: the global that lends its value there. An unboxed parameter at that place, of any function, is given numbers or copies
+  -- of this global. Code leaves the global as it is, so a module may read it again where the parameter has no number
+  pub lenders : List (Option ℕ)
   -- what is announced to the host, and made before the script runs; then the functions are announced
   pub globals : List Declared
   pub routines : List Routine

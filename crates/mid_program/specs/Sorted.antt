@@ -1,5 +1,5 @@
 -- Which mid code is well sorted. Lowering speaks of such code alone; the meaning is total.
-use Rattle.std.specs.Prelude.{ℕ, zero, suc, ◌^◌, T, Bool, true, false, not, ◌&&◌, ◌||◌, nat_le, nat_lt, if◌then◌else◌, List, [], ◌∷◌, ◌++◌, length, map, Option, Some, None, is_some, unsigned_abs}
+use Rattle.std.specs.Prelude.{ℕ, zero, suc, ◌^◌, T, Bool, true, false, not, ◌&&◌, ◌||◌, nat_eq, nat_le, nat_lt, if◌then◌else◌, List, [], ◌∷◌, ◌++◌, length, map, Option, Some, None, is_some, unsigned_abs}
 use Rattle.awk_text.specs.Number.{largest}
 use Rattle.sem_primitives.specs.Constants.{constant_at}
 use Rattle.sem_primitives.specs.declared.sorts.Sort.{Sort}
@@ -108,6 +108,8 @@ pub record Context : Type 0 where
   pub ranges : ℕ
   pub calls : List (List Kind)
   pub parameters : List Kind
+  -- by the places of parameters, what lends its value there
+  pub lenders : List (Option ℕ)
 
 abbrev pub same_kind : Kind → Kind → Bool
 same_kind Boxed Boxed = true
@@ -124,6 +126,26 @@ abbrev pub scalar_kind : Bool → Kind
 scalar_kind true = Unboxed
 scalar_kind false = Boxed
 
+-- what lends at a place, if anything does
+abbrev pub lender_at : List (Option ℕ) → ℕ → Option ℕ
+lender_at [] i = None
+lender_at (o ∷ os) zero = o
+lender_at (o ∷ os) (suc i) = lender_at os i
+
+abbrev pub is_lender : ℕ → Option ℕ → Bool
+is_lender g None = false
+is_lender g (Some i) = nat_eq g i
+
+-- whether a global lends its value at some place
+abbrev pub lends : List (Option ℕ) → ℕ → Bool
+lends [] g = false
+lends (o ∷ os) g = is_lender g o || lends os g
+
+-- whether any does
+abbrev pub has_lender : List (Option ℕ) → Bool
+has_lender [] = false
+has_lender (o ∷ os) = is_some o || has_lender os
+
 abbrev pub is_slot : Context → Slot → Bool
 is_slot c (Global u i) = has_kind c.globals i (scalar_kind u)
 is_slot c (Parameter u i) = has_kind c.parameters i (scalar_kind u)
@@ -139,11 +161,12 @@ is_bare None = false
 is_bare (Some (Global u i)) = u
 is_bare (Some (Parameter u i)) = u
 
--- into an unboxed name numbers alone are stored, and copies of others where it takes them: no conversion faults there
+-- Into an unboxed name numbers alone are stored, and copies of others where it takes them: no conversion faults there. Nothing is stored into a global
+-- that lends, nor into an unboxed parameter at a place where one lends.
 abbrev pub takes : Context → Slot → Option Slot → Form → Bool
-takes c (Global true i) o f = is_number f || (is_mixed c.mixed i && is_bare o)
+takes c (Global true i) o f = not (lends c.lenders i) && (is_number f || (is_mixed c.mixed i && is_bare o))
 takes c (Global false i) o f = fits f sort.Value
-takes c (Parameter true i) o f = is_number f
+takes c (Parameter true i) o f = not (is_some (lender_at c.lenders i)) && is_number f
 takes c (Parameter false i) o f = fits f sort.Value
 
 abbrev pub is_array_place : Context → ArrayName → Bool
@@ -175,18 +198,29 @@ count_of (Fresh es) = count_of es
 abbrev pub are_enough : Listed → Codes → Bool
 are_enough l es = nat_le (values_wanted l) (count_of es)
 
--- an argument for a parameter: to an unboxed one a number or nothing is given
-abbrev pub is_given : Form → Kind → Bool
-is_given f Boxed = fits f sort.Value
-is_given OptionalNumber Unboxed = true
-is_given f Unboxed = is_number f
-is_given f ArrayKind = fits f sort.Array
+-- a copy of the global that lends
+abbrev pub is_copy_of : ℕ → Option Slot → Bool
+is_copy_of g None = false
+is_copy_of g (Some (Global u i)) = u && nat_eq g i
+is_copy_of g (Some (Parameter u i)) = false
 
-abbrev pub fit_call : List Form → List Kind → Codes → Bool
-fit_call fs [] End = true
-fit_call fs (k ∷ ks) (At e es) = is_given (form_of fs e) k && fit_call fs ks es
-fit_call fs (ArrayKind ∷ ks) (Fresh es) = fit_call fs ks es
-fit_call fs _ _ = false
+-- for an unboxed parameter: a number or nothing, or, where a global lends its value, a number or a copy of that
+abbrev pub is_lent : Option ℕ → Option Slot → Form → Bool
+is_lent None o OptionalNumber = true
+is_lent None o f = is_number f
+is_lent (Some g) o f = is_number f || is_copy_of g o
+
+-- an argument for a parameter, by what lends at its place and of what it is a copy
+abbrev pub is_given : Option ℕ → Option Slot → Form → Kind → Bool
+is_given l o f Boxed = fits f sort.Value
+is_given l o f Unboxed = is_lent l o f
+is_given l o f ArrayKind = fits f sort.Array
+
+abbrev pub fit_call : (lender : ℕ → Option ℕ) → List Form → List Kind → Codes → Bool
+fit_call lender fs [] End = true
+fit_call lender fs (k ∷ ks) (At e es) = is_given (lender zero) (source_of e) (form_of fs e) k && fit_call (λ i. lender (suc i)) fs ks es
+fit_call lender fs (ArrayKind ∷ ks) (Fresh es) = fit_call (λ i. lender (suc i)) fs ks es
+fit_call lender fs _ _ = false
 
 -- What becomes of something that is kept, from left to right: it is there, it was moved (on some way), or it was used after it was moved.
 
@@ -264,16 +298,17 @@ are_missing (At e es) = false
 are_missing (Fixed n es) = false
 are_missing (Fresh es) = are_missing es
 
--- Once an array is made for a call, nothing else is called before that call.
+-- Once an array is made for a call, nothing else is called before that call. Where globals lend, code does not read the main input, since the command line
+-- may assign to them there.
 module _ (c : Context) where
   unfoldable mutual
     pub sorted : List Form → Code → Bool
     sorted fs (Do o es) = is_done_here o && (fit_row fs (arguments o) es && all_sorted fs es)
     sorted fs (Over l es) = are_enough l es && (all_values fs es && all_sorted fs es)
     sorted fs (Compare op a b) = fits (form_of fs a) sort.Value && (fits (form_of fs b) sort.Value && (sorted fs a && sorted fs b))
-    sorted fs (Call f es) = nat_lt f (length c.calls) && (fit_call fs (parameters_at c.calls f) es && all_sorted fs es)
-    sorted fs Ask = true
-    sorted fs (AskLine s) = stores_well fs s && sorted (a_value ∷ fs) s
+    sorted fs (Call f es) = nat_lt f (length c.calls) && (fit_call (lender_at c.lenders) fs (parameters_at c.calls f) es && all_sorted fs es)
+    sorted fs Ask = not (has_lender c.lenders)
+    sorted fs (AskLine s) = not (has_lender c.lenders) && (stores_well fs s && sorted (a_value ∷ fs) s)
     sorted fs (FileLine e s) = fits (form_of fs e) sort.Value && (sorted fs e && (stores_well fs s && sorted (a_value ∷ fs) s))
     sorted fs (Replace all es s) = fit_row fs (argument.Of sort.Value ∷ argument.Of sort.Value ∷ argument.Of sort.Value ∷ []) es
         && (all_sorted fs es && (stores_well fs s && sorted (a_value ∷ fs) s))
@@ -349,6 +384,7 @@ context_of p parameters = record {
   ranges = p.ranges;
   calls = calls_of p;
   parameters = parameters;
+  lenders = p.lenders;
 }
 
 abbrev pub routines_sorted : Program → List Routine → Bool
@@ -370,8 +406,15 @@ all_differ (n ∷ ns) = not (is_named ns n) && all_differ ns
 abbrev pub parts_sorted : Program → Context → Bool
 parts_sorted p c = steps_sorted c false false p.begin && (steps_sorted c false false p.items && steps_sorted c false false p.end)
 
+-- what lends is unboxed
+abbrev pub are_lenders : List Kind → List (Option ℕ) → Bool
+are_lenders ks [] = true
+are_lenders ks (None ∷ os) = are_lenders ks os
+are_lenders ks (Some g ∷ os) = has_kind ks g Unboxed && are_lenders ks os
+
 abbrev pub is_sorted : Program → Bool
-is_sorted p = all_differ (announced_names p) && (routines_sorted p p.routines && parts_sorted p (context_of p []))
+is_sorted p = all_differ (announced_names p)
+    && (are_lenders (kinds_of p.globals) p.lenders && (routines_sorted p p.routines && parts_sorted p (context_of p [])))
 
 abbrev pub IsSorted : Program → Type 0
 IsSorted p = T (is_sorted p)

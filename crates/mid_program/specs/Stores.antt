@@ -5,7 +5,9 @@ use Rattle.mid_program.specs.Mid.{Slot, Code, Do, Over, Compare, Call, Ask, AskL
 pub data Store : Type 0 where
   Into : Slot → Option Slot → Form → Store
   -- an argument: for a function, by its number, and its parameter's place
-  Given : ℕ → ℕ → Form → Store
+  Given : ℕ → ℕ → Option Slot → Form → Store
+  -- the main input is read: the command line may assign to any global
+  Asked : Store
 
 abbrev mutual
   pub stores : List Form → Code → List Store
@@ -13,8 +15,8 @@ abbrev mutual
   stores fs (Over l es) = stores_in fs es
   stores fs (Compare c a b) = stores fs a ++ stores fs b
   stores fs (Call f es) = stores_given f 0 fs es
-  stores fs Ask = []
-  stores fs (AskLine s) = stores (a_value ∷ fs) s
+  stores fs Ask = Asked ∷ []
+  stores fs (AskLine s) = Asked ∷ stores (a_value ∷ fs) s
   stores fs (FileLine e s) = stores fs e ++ stores (a_value ∷ fs) s
   stores fs (Replace all es s) = stores_in fs es ++ stores (a_value ∷ fs) s
   stores fs (Number z) = []
@@ -38,7 +40,7 @@ abbrev mutual
   -- arguments from the i-th on
   pub stores_given : ℕ → ℕ → List Form → Codes → List Store
   stores_given f i fs End = []
-  stores_given f i fs (At e es) = stores fs e ++ (Given f i (form_of fs e) ∷ stores_given f (suc i) fs es)
+  stores_given f i fs (At e es) = stores fs e ++ (Given f i (source_of e) (form_of fs e) ∷ stores_given f (suc i) fs es)
   stores_given f i fs (Fixed n es) = stores_given f (suc i) fs es
   stores_given f i fs (Fresh es) = stores_given f (suc i) fs es
 

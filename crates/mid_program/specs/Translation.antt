@@ -1,5 +1,5 @@
 -- The mid code of a script. It need not be believed: `EndsAs` says that its meaning is the script's.
-use Rattle.std.specs.Prelude.{ℕ, suc, ◌+◌, Bool, true, false, if◌then◌else◌, List, [], ◌∷◌, map, Option, Some, None, pos}
+use Rattle.std.specs.Prelude.{ℕ, zero, suc, ◌+◌, max, Bool, true, false, if◌then◌else◌, List, [], ◌∷◌, length, map, Option, Some, None, pos}
 use Rattle.awk_text.specs.Escapes.{string_text}
 use Rattle.sem_primitives.specs.Numbers.{Number as AnyNumber}
 use Rattle.sem_primitives.specs.ConstantNumbers.{special_number, flag_number}
@@ -378,9 +378,21 @@ declared_code p = record { name = p.name; kind = kind_of p; mixed = false }
 abbrev pub routine_code : List (List ℕ) → Resolved → Function → Routine
 routine_code texts script f = record { name = f.name; parameters = map kind_of f.parameters; body = steps_code texts (scope_in script f) f.body }
 
+-- as many places as a function has parameters at most
+
+abbrev pub most_parameters : List Routine → ℕ
+most_parameters [] = 0
+most_parameters (r ∷ rs) = max (length r.parameters) (most_parameters rs)
+
+-- at no place does a global lend its value
+abbrev pub none_lend : ℕ → List (Option ℕ)
+none_lend zero = []
+none_lend (suc n) = None ∷ none_lend n
+
 abbrev pub program_with : List (List ℕ) → Resolved → Program
 program_with texts script = record {
   texts = texts;
+  lenders = none_lend (most_parameters (map (routine_code texts script) script.functions));
   globals = map declared_code script.globals;
   routines = map (routine_code texts script) script.functions;
   ranges = range_count script.items;

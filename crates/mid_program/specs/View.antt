@@ -26,6 +26,7 @@ view_texts texts = map (λ t. t.items) texts
 abbrev pub view_mid : Mid → plain.Program
 view_mid m = record {
   texts = view_texts m.texts.keys;
+  lenders = m.lenders.items;
   globals = map view_declared m.globals.items;
   routines = map view_routine m.routines.items;
   ranges = m.ranges;

@@ -36,6 +36,8 @@ pub struct Routine {
 pub struct Mid {
     /// The texts of the script's constants, which the code names by their places.
     pub texts: IndexSet<Vec<u8>>,
+    /// By the places of parameters, the global that lends its value there, to unboxed parameters that have no number.
+    pub lenders: Vec<Option<usize>>,
     /// The global names, which are announced in this order; the functions follow.
     pub globals: Vec<Declared>,
     /// The functions, which the code names by their places.

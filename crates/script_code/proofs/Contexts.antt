@@ -5,7 +5,8 @@ use Rattle.sem_primitives.specs.declared.constants.Special.{Special}
 use Rattle.sem_scripts.specs.Names.{Name, Function, Resolved, Scope, Variable, Global, Parameter, Reserved, same_name, next_place, place_in, function_in, or_past, names_length, functions_length, function_at, special_named, special_array, is_special_array, variable_by, variable_of, global_or_special, own_or_special, arrays_before, array_by, kind_at, variable_is_array}
 use Rattle.mid_program.specs.Mid.{Kind, Boxed, ArrayKind, Routine, parameters_at}
 use Rattle.mid_program.specs.Sorted.{Context, same_kind, has_kind, is_array_place, kinds_of, is_many, arrays_among, context_of}
-use Rattle.mid_program.specs.Translation.{kind_of, declared_code, routine_code, program_with}
+use Rattle.mid_program.specs.Translation.{kind_of, declared_code, routine_code, most_parameters, program_with}
+use Rattle.mid_program.proofs.Lenders.{none_lend_has_none}
 use Rattle.script_code.specs.Fits.{scalar_at, is_scalar_variable}
 use Rattle.script_code.proofs.Good.{is_known}
 use Rattle.script_code.proofs.Places.{Agrees}
@@ -119,6 +120,7 @@ module _ (texts : List (List ℕ)) (script : Resolved) where
     pub agreement : Agrees context texts scope
     agreement = record {
       text = refl;
+      unlent = none_lend_has_none (most_parameters (map (routine_code texts script) script.functions));
       scalar = λ x e. known (variable_of scope x) e;
       array = λ x e. array_place (place_in parameters x) x e;
       call = λ f e. lt-ltb (or_past (functions_length script.functions) (function_in script.functions f)) (length (calls script.functions)) (function_number_below (functions_length script.functions) script.functions f e);

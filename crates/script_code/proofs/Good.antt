@@ -21,7 +21,7 @@ use Rattle.mid_program.specs.declared.mid.Operation.TheVariants.{Host, AsNumber}
 use Rattle.sem_scripts.specs.Names as names
 use Rattle.sem_scripts.specs.Names.{ArrayName, Variable, Reserved}
 use Rattle.mid_program.specs.Mid.{Code, Do, Compare, Ask, Number, Text, Array, Choose, At, End, Fixed, Boxed, Form, PrimitiveAnswer, NumberOrText, form_of, arguments, answer_by}
-use Rattle.mid_program.specs.Sorted.{Context, Held, There, Moved, Misused, either_way, fits, is_tested, is_dropped, is_chosen, is_operation, is_done_here, is_constant, is_array_place, is_bound, has_kind, held_after, sorted, all_sorted}
+use Rattle.mid_program.specs.Sorted.{Context, Held, There, Moved, Misused, either_way, fits, is_tested, is_dropped, is_chosen, is_operation, is_done_here, is_constant, is_array_place, is_bound, has_kind, has_lender, held_after, sorted, all_sorted}
 use Rattle.mid_program.specs.Translation.{host, one, two, zero_code, one_code, truth_code, untruth_code, record_code, special_code, variable_code, matching_code, ere_code}
 use Rattle.mid_program.specs.Texts.{text_place}
 
@@ -179,9 +179,9 @@ module _ (c : Context) where
     unfolding sorted
     text_good i e = record { tested = refl; fine = e; apart = λ j held. refl }
 
-    pub ask_good : Good fs Ask
+    pub ask_good : has_lender c.lenders ≡ false → Good fs Ask
     unfolding sorted
-    ask_good = record { tested = refl; fine = refl; apart = λ i held. refl }
+    ask_good n = record { tested = refl; fine = rw n refl; apart = λ i held. refl }
 
     pub special_good : (s : Special) → Good fs (special_code s)
     unfolding sorted all_sorted

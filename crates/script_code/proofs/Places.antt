@@ -1,5 +1,5 @@
 -- Code at the places of trees.
-use Rattle.std.proofs.Common.{◌≡◌, ℕ, true, List, ◌∷◌, length, refl}
+use Rattle.std.proofs.Common.{◌≡◌, ℕ, true, false, List, ◌∷◌, length, refl}
 use Rattle.std.specs.Prelude.{nat_lt, map}
 use Rattle.sem_primitives.specs.declared.sorts.Sort.TheVariants as sort
 use Rattle.sem_primitives.specs.declared.table.Primitive.TheVariants as row
@@ -12,7 +12,7 @@ use Rattle.mid_program.specs.declared.mid.Operation.{Operation}
 use Rattle.mid_program.specs.declared.mid.Operation.TheVariants.{Host, Inline}
 use Rattle.sem_scripts.specs.Names.{Scope, variable_of, array_of, function_number, function_at, is_array}
 use Rattle.mid_program.specs.Mid.{Code, Do, AskLine, FileLine, Form, parameters_at}
-use Rattle.mid_program.specs.Sorted.{Context, is_tested, is_array_place}
+use Rattle.mid_program.specs.Sorted.{Context, is_tested, is_array_place, has_lender}
 use Rattle.mid_program.specs.Translation.{two, one_code, variable_code, sign_of, product_of, step_arithmetic, step_of, target_in, received_at, stored_at, stepped_at, step_after_at, updated_at, kind_of}
 use Rattle.script_code.specs.Fits.{is_scalar, is_function}
 use Rattle.script_code.proofs.Good.{Good, is_known, tested_number, two_operands, variable_good, one_good}
@@ -23,6 +23,7 @@ use Rattle.script_code.proofs.Sound.{Sound}
 -- the code's names are those of the scope
 pub record Agrees (c : Context) (texts : List (List ℕ)) (scope : Scope) : Type 0 where
   pub text : c.texts ≡ length texts
+  pub unlent : has_lender c.lenders ≡ false
   pub scalar : (x : List ℕ) → is_scalar scope x ≡ true → is_known c (variable_of scope x) ≡ true
   pub array : (x : List ℕ) → is_array scope x ≡ true → is_array_place c (array_of scope x) ≡ true
   pub call : (f : List ℕ) → is_function scope.script f ≡ true → nat_lt (function_number scope.script f) (length c.calls) ≡ true
@@ -82,9 +83,9 @@ module _ (c : Context) (texts : List (List ℕ)) (scope : Scope) (agrees : Agree
 
   pub line_well : (t : Tree) → Sound texts scope t → (fs : List Form) → AtPlace c t fs (AskLine (received_at (target_in texts scope t)))
   unfolding element_way field_way
-  line_well (Var x) s fs = line_good c fs (variable_of scope x) (agrees.scalar x s)
-  line_well (Index x ts) s fs = λ f t. line_inner c (element_way c (array_of scope x) (agrees.array x s.0)) f fs t
-  line_well t s fs = λ f q. line_inner c (field_way c) f fs q
+  line_well (Var x) s fs = line_good c fs (variable_of scope x) (agrees.scalar x s) agrees.unlent
+  line_well (Index x ts) s fs = λ f t. line_inner c (element_way c (array_of scope x) (agrees.array x s.0)) f fs t agrees.unlent
+  line_well t s fs = λ f q. line_inner c (field_way c) f fs q agrees.unlent
 
   pub file_line_well : (t : Tree) → Sound texts scope t → (fs : List Form) (e : Code) → ((gs : List Form) → Good c gs e) → AtPlace c t fs (FileLine e (received_at (target_in texts scope t)))
   unfolding element_way field_way

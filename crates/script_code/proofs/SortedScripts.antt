@@ -11,6 +11,7 @@ use Rattle.mid_program.specs.Texts.{texts_in, all_texts, stmt_texts, stmts_texts
 use Rattle.mid_program.specs.Mid.{Step, Block, Declared, Routine}
 use Rattle.mid_program.specs.Sorted.{Context, announced_names, context_of, routines_sorted, sorted, step_sorted, steps_sorted, is_sorted, IsSorted}
 use Rattle.mid_program.specs.Translation.{steps_code, where_code, items_code, begin_code, end_code, kind_of, declared_code, routine_code, program_with, program_of}
+use Rattle.mid_program.proofs.Lenders.{no_lenders}
 use Rattle.script_code.specs.Fits.{parameters_named, scope_at, is_met, StmtsFit, PatternFits, ItemsFit, FunctionsFit, function_names, all_names, Fits}
 use Rattle.script_code.proofs.Sound.{AllWithin, parts}
 use Rattle.script_code.proofs.Good.{is_within}
@@ -104,7 +105,7 @@ module _ (texts : List (List ℕ)) (script : Resolved) where
       let c = context_of (program_with texts script) [] in
       let a = agreement texts script [] in
       let n = all_named script.functions (later_differ (map (λ (n : Name). n.name) script.globals) (function_names script.functions) f.named_apart) in
-      rw (same_names, f.named_apart, routines_fine script.functions n f.functions q.1, begin_fine c texts script a script.items f.items q.0, items_fine c texts script a 0 script.items f.items q.0 (omega arith), end_fine c texts script a script.items f.items q.0) refl
+      rw (same_names, f.named_apart, no_lenders c.globals c.lenders a.unlent, routines_fine script.functions n f.functions q.1, begin_fine c texts script a script.items f.items q.0, items_fine c texts script a 0 script.items f.items q.0 (omega arith), end_fine c texts script a script.items f.items q.0) refl
 
 pub script_sorted : (script : Resolved) → Fits script → IsSorted (program_of script)
 script_sorted script f = subst T (sym (program_fine (texts_of_script script) script f (script_within script))) tt

@@ -109,7 +109,7 @@ module _ (c : Context) (texts : List (List ℕ)) (scope : Scope) (agrees : Agree
         has_good c fs (array_of scope x) (host row.Join (two (code t) k)) (agrees.array x s.3)
         (two_operands c fs (Host row.Join) sort.Value sort.Value (code t) k refl refl refl tested_value tested_value (code_good t s.0 fs) (key_good ts s.1 s.2 fs))
     code_good (Cond e a b) s fs = choose_good c fs sort.Value (code e) (code a) (code b) refl refl tested_value (code_good e s.0 fs) (code_good a s.1 fs) (code_good b s.2 fs)
-    code_good tree.Get s fs = ask_good c fs
+    code_good tree.Get s fs = ask_good c fs agrees.unlent
     code_good (GetInto v) s fs = at_good v s fs (AskLine (received_at (target_in texts scope v))) (line_well c texts scope agrees v s fs)
     code_good (GetFrom t) s fs = answer_number_good c fs row.GetlineFile (code t) refl refl refl (code_good t s fs)
     code_good (GetIntoFrom v t) s fs = at_good v s.0 fs (FileLine (code t) (received_at (target_in texts scope v))) (file_line_well c texts scope agrees v s.0 fs (code t) (code_good t s.1))

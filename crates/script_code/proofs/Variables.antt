@@ -1,11 +1,11 @@
 -- Variables as places.
-use Rattle.std.proofs.Common.{◌≡◌, ℕ, suc, Bool, true, List, ◌∷◌, refl}
+use Rattle.std.proofs.Common.{◌≡◌, ℕ, suc, Bool, true, false, List, ◌∷◌, refl}
 use Rattle.mid_program.specs.declared.mid.Operation.{Operation}
 use Rattle.mid_program.specs.declared.mid.Operation.TheVariants.{AsNumber}
 use Rattle.sem_scripts.specs.Names as names
 use Rattle.sem_scripts.specs.Names.{Variable, Reserved}
 use Rattle.mid_program.specs.Mid.{Code, Do, AskLine, FileLine, Replace, Seq, Let, At, End, Form, PrimitiveAnswer, a_value, a_number, form_of, answer_by}
-use Rattle.mid_program.specs.Sorted.{Context, Held, There, Moved, is_tested, is_dropped, held_after, stores_well, sorted, all_sorted}
+use Rattle.mid_program.specs.Sorted.{Context, Held, There, Moved, is_tested, is_dropped, has_lender, held_after, stores_well, sorted, all_sorted}
 use Rattle.mid_program.specs.Translation.{one, two, one_code, copied, moved, variable_code, store_variable_code, set_variable_code}
 use Rattle.script_code.proofs.Good.{Good, is_known, as_value, as_number, tested_value, tested_number, tested_dropped, either_same, last_bound, second_bound, special_is, variable_good}
 use Rattle.script_code.proofs.Ways.{OnNumbers}
@@ -93,11 +93,11 @@ module _ (c : Context) where
           apart = λ i h. rw (set_held (suc i) v e (held_after i right h), read.apart (suc i) (held_after i right h)) (g.apart i h);
         }
 
-    pub line_good : Good c fs (AskLine (store_variable_code v (moved 0)))
+    pub line_good : has_lender c.lenders ≡ false → Good c fs (AskLine (store_variable_code v (moved 0)))
     unfolding sorted
-    line_good = record {
+    line_good n = record {
       tested = refl;
-      fine = rw (stores_into fs v, moved_into fs v k) refl;
+      fine = rw (n, stores_into fs v, moved_into fs v k) refl;
       apart = λ i h. rw (store_held (suc i) v (moved 0) h) (either_same h);
     }
 

@@ -1,5 +1,5 @@
 -- Elements and fields: what is done at a place once its key or its field's number is kept.
-use Rattle.std.proofs.Common.{◌≡◌, ℕ, suc, Bool, true, List, [], ◌∷◌, refl, ap, ◌∙◌}
+use Rattle.std.proofs.Common.{◌≡◌, ℕ, suc, Bool, true, false, List, [], ◌∷◌, refl, ap, ◌∙◌}
 use Rattle.sem_primitives.specs.declared.sorts.Sort.TheVariants as sort
 use Rattle.sem_primitives.specs.declared.sorts.Argument.TheVariants as argument
 use Rattle.sem_primitives.specs.declared.table.Primitive.TheVariants as row
@@ -7,7 +7,7 @@ use Rattle.mid_program.specs.declared.mid.Operation.{Operation}
 use Rattle.mid_program.specs.declared.mid.Operation.TheVariants.{AsNumber}
 use Rattle.sem_scripts.specs.Names.{ArrayName}
 use Rattle.mid_program.specs.Mid.{Code, Do, AskLine, FileLine, Replace, Array, Seq, Let, At, End, Form, PrimitiveAnswer, a_value, a_number, form_of, form_at, arguments, answer_by}
-use Rattle.mid_program.specs.Sorted.{Context, Held, There, Moved, is_tested, is_dropped, is_done_here, is_array_place, is_bound, held_after, keeps_well, sorted, all_sorted}
+use Rattle.mid_program.specs.Sorted.{Context, Held, There, Moved, is_tested, is_dropped, is_done_here, is_array_place, is_bound, has_lender, held_after, keeps_well, sorted, all_sorted}
 use Rattle.mid_program.specs.Translation.{host, one, two, one_code, copied, moved}
 use Rattle.script_code.proofs.Good.{Good, as_value, tested_value, tested_number, either_same, last_bound, second_bound, third_bound}
 
@@ -158,11 +158,11 @@ module _ (c : Context) where
         }
 
     -- a line that is read goes into the place
-    pub line_inner : Inner (f ∷ fs) (AskLine (w.store 1 (moved 0)))
+    pub line_inner : has_lender c.lenders ≡ false → Inner (f ∷ fs) (AskLine (w.store 1 (moved 0)))
     unfolding sorted
-    line_inner = record {
+    line_inner n = record {
       tested = refl;
-      fine = rw (w.store_held 0 1 (moved 0) There, w.store_dropped (a_value ∷ f ∷ fs) 1 (moved 0), w.store_fine (a_value ∷ f ∷ fs) 1 (moved 0) (second_bound a_value f fs) t refl (last_bound a_value (f ∷ fs))) refl;
+      fine = rw (n, w.store_held 0 1 (moved 0) There, w.store_dropped (a_value ∷ f ∷ fs) 1 (moved 0), w.store_fine (a_value ∷ f ∷ fs) 1 (moved 0) (second_bound a_value f fs) t refl (last_bound a_value (f ∷ fs))) refl;
       keeps = rw (w.store_held 1 1 (moved 0) There) refl;
       apart = λ i h. rw (w.store_held (suc (suc i)) 1 (moved 0) h) (either_same h);
     }

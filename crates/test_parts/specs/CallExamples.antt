@@ -30,6 +30,7 @@ fib e = Call 0 (At e End)
 abbrev calling : ℕ → Program
 calling k = record {
   texts = [];
+  lenders = [];
   globals = [];
   routines = (record {
     name = codes "fib";

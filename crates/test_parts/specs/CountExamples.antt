@@ -40,6 +40,7 @@ kind_for false = Boxed
 abbrev with_begin : Bool → Steps → Program
 with_begin u ss = record {
   texts = [];
+  lenders = [];
   globals = (record { name = codes "n"; kind = kind_for u; mixed = false })
       ∷ [];
   routines = [];
@@ -133,6 +134,7 @@ first_and_next =
 abbrev summing : ℕ → Program
 summing k = record {
   texts = [];
+  lenders = [];
   globals = unboxed_name (codes "m") ∷ (unboxed_name (codes "i") ∷ (unboxed_name (codes "s") ∷ []));
   routines = [];
   ranges = 1;
@@ -161,6 +163,7 @@ counter =
 abbrev tallying : ℕ → Program
 tallying k = record {
   texts = codes "x" ∷ [];
+  lenders = [];
   globals = unboxed_name (codes "n") ∷ ((record { name = codes "c"; kind = ArrayKind; mixed = false }) ∷ []);
   routines = [];
   ranges = 1;
@@ -182,6 +185,7 @@ residue = Eval (Set (Global true 1) (Do (Inline Modulo) (At (Do (Inline Times) (
 abbrev dividing : ℕ → Program
 dividing k = record {
   texts = [];
+  lenders = [];
   globals = unboxed_name (codes "n") ∷ (unboxed_name (codes "x") ∷ []);
   routines = [];
   ranges = 1;
@@ -210,6 +214,7 @@ field_added = Eval (Let (Do (Host Field) (At (Number (pos 1)) End)) (Set (Global
 abbrev adding : ℕ → Program
 adding k = record {
   texts = [];
+  lenders = [];
   globals = unboxed_name (codes "n") ∷ (unboxed_name (codes "s") ∷ []);
   routines = [];
   ranges = 1;
@@ -231,6 +236,7 @@ field_compared = If (Compare Equal (Do (Host Field) (At (Number (pos 1)) End)) (
 abbrev comparing : ℕ → Program
 comparing k = record {
   texts = codes "x" ∷ [];
+  lenders = [];
   globals = unboxed_name (codes "n") ∷ [];
   routines = [];
   ranges = 1;

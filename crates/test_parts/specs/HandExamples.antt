@@ -28,6 +28,7 @@ name kind text = record { name = text; kind = kind; mixed = false }
 abbrev program : List Routine → Steps → Program
 program rs ss = record {
   texts = codes "x" ∷ (codes "y" ∷ []);
+  lenders = [];
   globals = name Boxed (codes "k")
       ∷ (name ArrayKind (codes "a") ∷ []);
   routines = rs;

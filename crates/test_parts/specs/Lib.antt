@@ -32,6 +32,7 @@ pub mod Counting
 pub mod CountExamples
 pub mod StepExamples
 pub mod CallExamples
+pub mod LentExamples
 pub mod QuickExamples
 pub mod HandExamples
 pub mod NotedExamples

@@ -13,6 +13,7 @@ use Rattle.test_parts.specs.Sizes.{module_size, times}
 abbrev repeated : Kind → ℕ → Step → Program
 repeated kind n s = record {
   texts = [];
+  lenders = [];
   globals = (record { name = codes "x"; kind = kind; mixed = false })
       ∷ [];
   routines = [];

@@ -17,7 +17,7 @@ use Rattle.sem_scripts.specs.Names as names
 use Rattle.mid_program.specs.Sorted as sorted
 use Rattle.sem_scripts.specs.Steps.{ere_in}
 use Rattle.mid_program.specs.Translation.{ElementTarget, FieldTarget, NameTarget, Target, applied_code, argument_codes, code_of, codes_of, ere_code, fresh_codes, given_code, keeping, kept_code, key_code, moved, one_code, passed_code, product_of, read_at, received_at, sign_of, step_after_at, step_of, stepped_at, store_at, stored_at, substituted_at, target_in, truncated_code, two, updated_at, variable_code, zero_code}
-use Rattle.mid_program.specs.Stores.{Every, Given, Into, stores_given, stores_in}
+use Rattle.mid_program.specs.Stores.{Asked, Every, Given, Into, stores_given, stores_in}
 use Rattle.mid_program.specs.Stores as code
 use Rattle.value_kinds.specs.Lanes.{is_plain}
 use Rattle.value_kinds.specs.Stores.{Copy, Global, Parameter, Result, Scalar, Special, Store, Stored, Text, Value, all_stores, applied, given, gives_number, into, is_number, scalar_in, stores, value_of}
@@ -93,7 +93,8 @@ module _ (x : Taker) where
     abbrev pub CodeFits : code.Store → Type 0
     CodeFits (Into (mid.Global u i) o f) = Global i ≡ x.scalar → NumberOrCopy o f
     CodeFits (Into (mid.Parameter u i) o f) = Parameter g i ≡ x.scalar → sorted.is_number f ≡ true
-    CodeFits (Given k i f) = Parameter k i ≡ x.scalar → is_plain f ≡ true
+    CodeFits (Given k i o f) = Parameter k i ≡ x.scalar → is_plain f ≡ true
+    CodeFits Asked = Unit {0}
 
     -- into a parameter too
     no_copy : (i : ℕ) (o : Option mid.Slot) (f : Form) → Parameter g i ≡ x.scalar → NumberOrCopy o f → sorted.is_number f ≡ true
@@ -315,8 +316,8 @@ module _ (x : Taker) where
         code_fit (Cond c a b) h fs =
             let p = three (S c) (S a) (S b) h in
             both (code.stores fs (C c)) _ (code_fit c p.0 fs) (both (code.stores fs (C a)) (code.stores fs (C b)) (code_fit a p.1 fs) (code_fit b p.2 fs))
-        code_fit Get h fs = tt
-        code_fit (GetInto v) h fs = kept_fit v (first (S v) (into g scope v Text) h) (AskLine (received_at (T v))) (received v (second (S v) (into g scope v Text) h)) fs
+        code_fit Get h fs = (tt, tt)
+        code_fit (GetInto v) h fs = kept_fit v (first (S v) (into g scope v Text) h) (AskLine (received_at (T v))) (λ gs. (tt, received v (second (S v) (into g scope v Text) h) gs)) fs
         code_fit (GetFrom s) h fs = alone (code.stores fs (C s) ++ []) (alone (code.stores fs (C s)) (code_fit s h fs))
         code_fit (GetIntoFrom v s) h fs =
             let p = three (S v) (S s) (into g scope v Text) h in

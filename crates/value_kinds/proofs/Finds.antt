@@ -1,12 +1,14 @@
 -- The lanes that are found unbox each scalar into which numbers alone are stored, and each global into which copies of such scalars are stored besides.
-use Rattle.std.proofs.Common.{◌≡◌, ◌⊎◌, inl, inr, ℕ, zero, suc, Bool, true, false, ◌||◌, List, [], ◌∷◌, Option, Some, None, map, refl, ap, ◌∙◌}
-use Rattle.mid_program.specs.Mid.{Kind, Boxed, Unboxed, ArrayKind, Slot, Global, Parameter, Routine, Program, parameters_at}
-use Rattle.mid_program.specs.Sorted.{is_number, kinds_of, calls_of}
+use Rattle.std.proofs.Common.{◌≡◌, ◌⊎◌, inl, inr, ℕ, zero, suc, Bool, true, false, not, ◌&&◌, ◌||◌, List, [], ◌∷◌, Option, Some, None, is_some, map, refl, sym, ap, ◌∙◌}
+use Rattle.mid_program.specs.Mid.{Kind, Boxed, Unboxed, ArrayKind, Slot, Global, Parameter, Form, Program, parameters_at}
+use Rattle.mid_program.specs.Sorted.{is_number, kinds_of, calls_of, lender_at}
 use Rattle.value_kinds.specs.Applied.{is_unboxed}
-use Rattle.value_kinds.specs.Found.{CopiesNumbers, GlobalNumber, GlobalTakes, ParameterNumber, InRoutines, Throughout, is_scalar, FindsNumbers}
-use Rattle.value_kinds.specs.Lanes.{Lanes, opened, close_at, close_in, is_copy, is_plain, unless, marked, all_marked, routines_marked, at_first, walked, no_names, numbers_alone}
-use Rattle.mid_program.specs.Stores.{Store, Into, Given, Every, steps_stores}
+use Rattle.value_kinds.specs.Found.{CopiesNumbers, GlobalNumber, GlobalTakes, ParameterNumber, Throughout, is_scalar, FindsNumbers}
+use Rattle.value_kinds.specs.Lanes.{Lanes, opened, close_at, close_in, is_copy, is_passed, is_plain, unless, marked, at_first, walked, no_names, numbers_alone, first_walk, infer}
+use Rattle.mid_program.specs.Stores.{Store, Into, Given, Asked}
 use Rattle.value_kinds.proofs.Forms.{clash}
+use Rattle.value_kinds.proofs.Lending.{no_lender}
+use Rattle.value_kinds.proofs.Visits.{visits_keep}
 
 -- at first
 
@@ -65,64 +67,74 @@ module _ (n : Lanes) where
   abbrev Stays : ℕ → ℕ → Store → Type 0
   Stays i g (Into (Global u j) o f) = i ≡ j → (is_number f || is_copy n g o) ≡ true
   Stays i g (Into (Parameter u j) o f) = Unit {0}
-  Stays i g (Given k j f) = Unit {0}
+  Stays i g (Given k j o f) = Unit {0}
+  Stays i g Asked = Unit {0}
 
   mark_global : (i g : ℕ) (l : Lanes) (s : Store) → Stays i g s → is_unboxed l.globals i ≡ true → is_unboxed (marked n g l s).globals i ≡ true
   mark_global i g l (Into (Global u j) o f) e h = global_by (is_number f || is_copy n g o) l i j e h
-  mark_global i g l (Into (Parameter u j) o f) e h = ap (λ (ks : List Kind). is_unboxed ks i) (unless_globals (is_number f) l (close_in l.parameters g j)) ∙ h
-  mark_global i g l (Given k j f) e h = ap (λ (ks : List Kind). is_unboxed ks i) (unless_globals (is_plain f) l (close_in l.parameters k j)) ∙ h
+  mark_global i g l (Into (Parameter u j) o f) e h =
+      ap (λ (ks : List Kind). is_unboxed ks i) (unless_globals (not (is_some (lender_at n.lenders j)) && is_number f) l (close_in l.parameters g j)) ∙ h
+  mark_global i g l (Given k j o f) e h = ap (λ (ks : List Kind). is_unboxed ks i) (unless_globals (is_passed (lender_at n.lenders j) o f) l (close_in l.parameters k j)) ∙ h
+  mark_global i g l Asked e h = h
 
-  mark_parameter : (f i g : ℕ) (l : Lanes) (s : Store) → ParameterNumber f i g s → is_unboxed (parameters_at l.parameters f) i ≡ true → is_unboxed (parameters_at (marked n g l s).parameters f) i ≡ true
-  mark_parameter f i g l (Into (Global u j) o x) e h =
-      ap (λ (kss : List (List Kind)). is_unboxed (parameters_at kss f) i) (unless_parameters (is_number x || is_copy n g o) l (close_at l.globals j)) ∙ h
-  mark_parameter f i g l (Into (Parameter u j) o x) e h = parameter_by (is_number x) l f i g j e h
-  mark_parameter f i g l (Given k j x) e h = parameter_by (is_plain x) l f i k j e h
+  -- where nothing lends, a number is stored into a parameter, and a number or nothing is given for it
+  module _ (i : ℕ) (none : lender_at n.lenders i ≡ None) where
+    none_at : (j : ℕ) → i ≡ j → lender_at n.lenders j ≡ None
+    none_at j e = ap (lender_at n.lenders) (sym e) ∙ none
 
-  -- all stores, for what holds of lanes and is kept by each
-  module _ (P : ℕ → Store → Type 0) (H : Lanes → Type 0) (keeps : (g : ℕ) (l : Lanes) (s : Store) → P g s → H l → H (marked n g l s)) where
-    all_keep : (g : ℕ) (l : Lanes) (ss : List Store) → Every (P g) ss → H l → H (all_marked n g l ss)
-    all_keep g l [] e h = h
-    all_keep g l (s ∷ ss) e h = all_keep g (marked n g l s) ss e.1 (keeps g l s e.0 h)
+    number_stored : (j : ℕ) (b : Bool) → i ≡ j → b ≡ true → (not (is_some (lender_at n.lenders j)) && b) ≡ true
+    number_stored j b e h = λ k. not (is_some (none_at j e k)) && h k
 
-    routines_keep : (g : ℕ) (l : Lanes) (rs : List Routine) → InRoutines P g rs → H l → H (routines_marked n g l rs)
-    routines_keep g l [] e h = h
-    routines_keep g l (r ∷ rs) e h = routines_keep (suc g) (all_marked n g l (steps_stores r.body)) rs e.1 (all_keep g l (steps_stores r.body) e.0 h)
+    plain_given : (j : ℕ) (o : Option Slot) (x : Form) → i ≡ j → is_plain x ≡ true → is_passed (lender_at n.lenders j) o x ≡ true
+    plain_given j o x e h = ap (λ (a : Option ℕ). is_passed a o x) (none_at j e) ∙ h
 
-    walk_keeps : (p : Program) → Throughout P p → H (at_first p) → H (walked n p)
-    walk_keeps p t h = all_keep _ _ _ t.1.1.1 (all_keep _ _ _ t.1.1.0 (all_keep _ _ _ t.1.0 (routines_keep 0 (at_first p) p.routines t.0 h)))
+    mark_parameter : (f g : ℕ) (l : Lanes) (s : Store) → ParameterNumber f i g s → is_unboxed (parameters_at l.parameters f) i ≡ true → is_unboxed (parameters_at (marked n g l s).parameters f) i ≡ true
+    mark_parameter f g l (Into (Global u j) o x) e h =
+        ap (λ (kss : List (List Kind)). is_unboxed (parameters_at kss f) i) (unless_parameters (is_number x || is_copy n g o) l (close_at l.globals j)) ∙ h
+    mark_parameter f g l (Into (Parameter u j) o x) e h =
+        parameter_by (not (is_some (lender_at n.lenders j)) && is_number x) l f i g j (λ d q. number_stored j (is_number x) q (e d q)) h
+    mark_parameter f g l (Given k j o x) e h = parameter_by (is_passed (lender_at n.lenders j) o x) l f i k j (λ d q. plain_given j o x q (e d q)) h
+    mark_parameter f g l Asked e h = h
 
-  parameter_found : (p : Program) (f i : ℕ) → is_scalar (parameters_at (calls_of p) f) i ≡ true → Throughout (ParameterNumber f i) p → is_unboxed (parameters_at (walked n p).parameters f) i ≡ true
-  parameter_found p f i s t = walk_keeps (ParameterNumber f i) (λ l. is_unboxed (parameters_at l.parameters f) i ≡ true) (mark_parameter f i) p t (opened_in (calls_of p) f i s)
+    parameter_found : (p : Program) (f : ℕ) → is_scalar (parameters_at (calls_of p) f) i ≡ true → Throughout (ParameterNumber f i) p → is_unboxed (parameters_at (walked n p).parameters f) i ≡ true
+    parameter_found p f s t = visits_keep (marked n) (ParameterNumber f i) (λ l. is_unboxed (parameters_at l.parameters f) i ≡ true) (mark_parameter f) (at_first p) p t (opened_in (calls_of p) f i s)
 
 number_stays : (i g : ℕ) (s : Store) → GlobalNumber i g s → Stays no_names i g s
 number_stays i g (Into (Global u j) o f) h = λ e. ap (λ (b : Bool). b || is_copy no_names g o) (h e)
 number_stays i g (Into (Parameter u j) o f) h = tt
-number_stays i g (Given k j f) h = tt
+number_stays i g (Given k j o f) h = tt
+number_stays i g Asked h = tt
 
 number_found : (p : Program) (i : ℕ) → is_scalar (kinds_of p.globals) i ≡ true → Throughout (GlobalNumber i) p → is_unboxed (numbers_alone p).globals i ≡ true
 number_found p i s t =
-    walk_keeps no_names (GlobalNumber i) (λ l. is_unboxed l.globals i ≡ true) (λ g l x h. mark_global no_names i g l x (number_stays i g x h)) p t (opened_at (kinds_of p.globals) i s)
+    visits_keep (marked no_names) (GlobalNumber i) (λ l. is_unboxed l.globals i ≡ true) (λ g l x h. mark_global no_names i g l x (number_stays i g x h)) (at_first p) p t
+    (opened_at (kinds_of p.globals) i s)
 
 module _ (p : Program) where
-  counts : (g : ℕ) (o : Option Slot) → CopiesNumbers p g o → is_copy (numbers_alone p) g o ≡ true
+  counts : (g : ℕ) (o : Option Slot) → CopiesNumbers p g o → is_copy (first_walk p) g o ≡ true
   counts g None c = absurd c
   counts g (Some (Global u j)) c = number_found p j c.0 c.1
-  counts g (Some (Parameter u j)) c = parameter_found no_names p g j c.0 c.1
+  counts g (Some (Parameter u j)) c = parameter_found no_names j refl p g c.0 c.1
 
-  either_counts : (b : Bool) (g : ℕ) (o : Option Slot) → (b ≡ true) ⊎ CopiesNumbers p g o → (b || is_copy (numbers_alone p) g o) ≡ true
+  either_counts : (b : Bool) (g : ℕ) (o : Option Slot) → (b ≡ true) ⊎ CopiesNumbers p g o → (b || is_copy (first_walk p) g o) ≡ true
   either_counts true g o h = refl
   either_counts false g o (inl h) = clash h
   either_counts false g o (inr c) = counts g o c
 
-  taken_stays : (i g : ℕ) (s : Store) → GlobalTakes p i g s → Stays (numbers_alone p) i g s
+  taken_stays : (i g : ℕ) (s : Store) → GlobalTakes p i g s → Stays (first_walk p) i g s
   taken_stays i g (Into (Global u j) o f) h = λ e. either_counts (is_number f) g o (h e)
   taken_stays i g (Into (Parameter u j) o f) h = tt
-  taken_stays i g (Given k j f) h = tt
+  taken_stays i g (Given k j o f) h = tt
+  taken_stays i g Asked h = tt
+
+  global_found : (i : ℕ) → is_scalar (kinds_of p.globals) i ≡ true → Throughout (GlobalTakes p i) p → is_unboxed (infer p).globals i ≡ true
+  global_found i s t =
+      visits_keep (marked (first_walk p)) (GlobalTakes p i) (λ l. is_unboxed l.globals i ≡ true) (λ g l x h. mark_global (first_walk p) i g l x (taken_stays i g x h)) (at_first p) p t
+      (opened_at (kinds_of p.globals) i s)
 
   pub finds : FindsNumbers p
   finds = record {
     numbers = number_found p;
-    globals = λ i s t. walk_keeps (numbers_alone p) (GlobalTakes p i) (λ l. is_unboxed l.globals i ≡ true) (λ g l x h. mark_global (numbers_alone p) i g l x (taken_stays i g x h)) p t
-        (opened_at (kinds_of p.globals) i s);
-    parameters = parameter_found (numbers_alone p) p;
+    globals = global_found;
+    parameters = λ f i s t. let none = no_lender p f i (parameter_found no_names i refl p f s t) in (parameter_found (first_walk p) i none p f s t, none);
   }

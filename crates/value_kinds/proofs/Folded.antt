@@ -6,7 +6,7 @@ use Rattle.mid_program.specs.declared.mid.Operation.{Operation}
 use Rattle.mid_program.specs.declared.mid.Operation.TheVariants.{AsNumber, FieldNumber, Host, Inline}
 use Rattle.mid_program.specs.Mid.{PrimitiveAnswer, Array, Ask, AskLine, At, Block, Bound, Break, Call, Choose, Code, Codes, Compare, Continue, Do, Each, End, Eval, Exit, ExitWith, FileLine, Fixed, Form, Fresh, Get, If, IsOpen, Let, Loop, Mark, Next, NoStep, Number, Over, Replace, Return, Seq, Set, Step, Steps, Text, Then, Unset, a_number, a_value, answer_by, form_of, source_of}
 use Rattle.mid_program.specs.Rewriting.{code_in, codes_in, step_in, steps_in}
-use Rattle.mid_program.specs.Stores.{Given, Into, Store, step_stores, steps_stores, stores, stores_given, stores_in}
+use Rattle.mid_program.specs.Stores.{Asked, Given, Into, Store, step_stores, steps_stores, stores, stores_given, stores_in}
 use Rattle.folding.specs.Folding.{constant, of_one, of_two, reduced, reduced_to, same, value_of}
 use Rattle.folding.proofs.Sorted.{source_by}
 
@@ -84,7 +84,7 @@ mutual
   stores_same fs (Compare c a b) = λ j. stores_same fs a j ++ stores_same fs b j
   stores_same fs (Call f es) = given_same f 0 fs es
   stores_same fs Ask = refl
-  stores_same fs (AskLine s) = stores_same (a_value ∷ fs) s
+  stores_same fs (AskLine s) = ap (λ (ss : List Store). Asked ∷ ss) (stores_same (a_value ∷ fs) s)
   stores_same fs (FileLine e s) = λ j. stores_same fs e j ++ stores_same (a_value ∷ fs) s j
   stores_same fs (Replace all es s) = λ j. operands_same fs es j ++ stores_same (a_value ∷ fs) s j
   stores_same fs (Number z) = refl
@@ -108,7 +108,7 @@ mutual
 
   given_same : (f i : ℕ) (fs : List Form) (es : Codes) → stores_given f i fs (Fs es) ≡ stores_given f i fs es
   given_same f i fs End = refl
-  given_same f i fs (At e es) = λ j. stores_same fs e j ++ (Given f i (form_same fs e j) ∷ given_same f (suc i) fs es j)
+  given_same f i fs (At e es) = λ j. stores_same fs e j ++ (Given f i (source_same e j) (form_same fs e j) ∷ given_same f (suc i) fs es j)
   given_same f i fs (Fixed n es) = given_same f (suc i) fs es
   given_same f i fs (Fresh es) = given_same f (suc i) fs es
 

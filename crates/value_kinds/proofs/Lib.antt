@@ -1,6 +1,9 @@
 pub mod Applies
 mod Views
 mod Throughout
+mod Visits
+mod Boxed
+mod Lending
 mod Finds
 mod Closed
 pub mod Sources

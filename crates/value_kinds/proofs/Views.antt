@@ -1,5 +1,5 @@
 -- Lists that are written anew, element by element.
-use Rattle.std.proofs.Common.{◌≡◌, ℕ, zero, suc, false, ◌+◌, ◌<◌, ◌≤◌, Bool, List, [], ◌∷◌, length, map, get_or, set, take, drop, ◌++◌, append_assoc, add-one, refl, sym, ap, subst, ◌∙◌, arith}
+use Rattle.std.proofs.Common.{◌≡◌, ℕ, zero, suc, false, ◌+◌, ◌<◌, ◌≤◌, Bool, List, [], ◌∷◌, length, map, get_or, set, take, drop, ◌++◌, append_assoc, Option, None, add-one, refl, sym, ap, subst, ◌∙◌, arith}
 use Rattle.std.proofs.Math.Seq.{drop-cons, take-append_seam}
 use Rattle.std.proofs.lemmas.List.{get_or-set_other, length-set, map-append}
 use Rattle.std.specs.declared.vec.Vec.{Vec}
@@ -21,8 +21,9 @@ use Rattle.mid_program.specs.Rewriting.{code_in, codes_in, step_in, steps_in}
 use Rattle.mid_program.specs.declared.program.Declared.{Declared}
 use Rattle.mid_program.specs.declared.program.Kind.{Kind}
 use Rattle.mid_program.specs.View.{view_declared, view_kind, view_routine}
-use Rattle.mid_program.specs.Sorted.{same_kind}
+use Rattle.mid_program.specs.Sorted.{lender_at, same_kind}
 use Rattle.value_kinds.specs.Applied.{global_with, globals_with, is_unboxed, kind_with, kinds_with, routine_with, routines_with}
+use Rattle.value_kinds.specs.Lanes.{by_place, first_wish, none_wished, wish_at}
 
 row_views : {n : _} (k : Row_of-Operand n) → view_row k ≡ views (items-the_row-Operand n k)
 row_views end_of-Operand = refl
@@ -185,6 +186,44 @@ routines_done gs ps zero (x ∷ xs) ys e h = absurd cc
 routines_done gs ps (suc i) (x ∷ xs) (y ∷ ys) e h = λ j. h.0 j ∷ routines_done gs (λ k. ps (suc k)) i xs ys (omega (arith, e)) h.1 j
 routines_done gs ps (suc i) (x ∷ xs) [] e h = absurd h
 routines_done gs ps (suc i) [] ys e h = absurd cc
+
+-- lenders, by their places
+
+abbrev pub LenderDone : (ℕ → Option ℕ → Option ℕ) → ℕ → Option ℕ → Option ℕ → Type 0
+LenderDone w k x y = x ≡ w k y
+
+pub lenders_done : (w : ℕ → Option ℕ → Option ℕ) (i : ℕ) (xs ys : List (Option ℕ)) → i ≡ length xs → Done (LenderDone w) i xs ys → xs ≡ by_place w ys
+lenders_done w zero [] [] e h = refl
+lenders_done w zero [] (y ∷ ys) e h = absurd cc
+lenders_done w zero (x ∷ xs) ys e h = absurd cc
+lenders_done w (suc i) (x ∷ xs) (y ∷ ys) e h = λ j. h.0 j ∷ lenders_done (λ k. w (suc k)) i xs ys (omega (arith, e)) h.1 j
+lenders_done w (suc i) (x ∷ xs) [] e h = absurd h
+lenders_done w (suc i) [] ys e h = absurd cc
+
+pub lender_past : (os : List (Option ℕ)) (i : ℕ) → length os ≤ i → None ≡ lender_at os i
+lender_past [] i le = refl
+lender_past (o ∷ os) zero le = absurd (omega arith)
+lender_past (o ∷ os) (suc i) le = lender_past os i (omega arith)
+
+pub lender_there : (os : List (Option ℕ)) (i : ℕ) (d : Option ℕ) → i < length os → get_or os i d ≡ lender_at os i
+lender_there [] i d lt = absurd (omega arith)
+lender_there (o ∷ os) zero d lt = refl
+lender_there (o ∷ os) (suc i) d lt = lender_there os i d (omega arith)
+
+pub wish_set : (os : List (Option ℕ)) (i g : ℕ) (w d : Option ℕ) → i < length os → w ≡ first_wish (get_or os i d) g → set os i w ≡ wish_at os i g
+wish_set [] i g w d lt e = absurd (omega arith)
+wish_set (o ∷ os) zero g w d lt e = ap (λ (x : Option ℕ). x ∷ os) e
+wish_set (o ∷ os) (suc i) g w d lt e = ap (λ (xs : List (Option ℕ)). o ∷ xs) (wish_set os i g w d (omega arith) e)
+
+pub wish_past : (os : List (Option ℕ)) (i g : ℕ) → length os ≤ i → os ≡ wish_at os i g
+wish_past [] i g le = refl
+wish_past (o ∷ os) zero g le = absurd (omega arith)
+wish_past (o ∷ os) (suc i) g le = ap (λ (xs : List (Option ℕ)). o ∷ xs) (wish_past os i g (omega arith))
+
+pub none_next : (os bs cs : List (Option ℕ)) (i : ℕ) → i < length os → cs ≡ bs ++ (None ∷ []) → cs ++ none_wished (drop (i + 1) os) ≡ bs ++ none_wished (drop i os)
+none_next os bs cs i lt pushed =
+    (λ j. pushed j ++ none_wished (drop (add-one i j) os)) ∙ append_assoc bs (None ∷ []) (none_wished (drop (suc i) os))
+    ∙ ap (λ (xs : List (Option ℕ)). bs ++ none_wished xs) (sym (drop-cons os i None lt))
 
 -- what a Vec has once its elements were lent
 pub written_back : {A : Type 0} (n : ℕ) (xs ys : List A) → n ≡ length xs → take n (xs ++ ys) ≡ xs

@@ -2,22 +2,19 @@
 use Rattle.std.proofs.Common.{◌≡◌, ℕ, suc, ◌+◌, ◌<◌, List, [], ◌∷◌, ◌++◌, append_assoc, get_or, drop, length, map, Option, add-one, append-nil, refl, sym, ap, ◌∙◌}
 use Rattle.std.proofs.Math.Seq.{drop-cons}
 use Rattle.mid_program.specs.Mid as plain
-use Rattle.mid_program.specs.Mid.{Code, Codes, End, Form, form_of, source_of}
+use Rattle.mid_program.specs.Mid.{Code, Codes, End, Form, a_value, form_of, source_of}
 use Rattle.mid_program.specs.ViewCode.{before, joined, view, view_step, view_steps, views}
 use Rattle.mid_program.specs.declared.code.Code.{Code as Owned}
 use Rattle.mid_program.specs.declared.code.Operand.{Operand}
 use Rattle.mid_program.specs.declared.code.Operand.TheVariants as operand
 use Rattle.mid_program.specs.declared.step.Step.{Step}
-use Rattle.value_kinds.specs.Lanes.{Lanes, all_marked, marked}
-use Rattle.mid_program.specs.Stores.{Given, Into, Store, step_stores, steps_stores, stores, stores_given, stores_in}
+use Rattle.value_kinds.specs.Lanes.{marked, seen}
+use Rattle.mid_program.specs.Stores.{Asked, Given, Into, Store, step_stores, steps_stores, stores, stores_given, stores_in}
 use Rattle.value_kinds.specs.Walks.{Walk, after, stores_each}
-
-marked_twice : (n : Lanes) (g : ℕ) (l : Lanes) (xs ys : List Store) → all_marked n g (all_marked n g l xs) ys ≡ all_marked n g l (xs ++ ys)
-marked_twice n g l [] ys = refl
-marked_twice n g l (x ∷ xs) ys = marked_twice n g (marked n g l x) xs ys
+use Rattle.value_kinds.proofs.Visits.{visited_twice}
 
 after_twice : (w : Walk) (xs ys : List Store) → after (after w xs) ys ≡ after w (xs ++ ys)
-after_twice w xs ys = λ i. record w { lanes = marked_twice w.numbers w.function w.lanes xs ys i }
+after_twice w xs ys = λ i. record w { lanes = visited_twice (marked w.numbers) w.function w.lanes xs ys i; scan = visited_twice seen w.function w.scan xs ys i }
 
 -- two parts
 pub two_walked : (w s t : Walk) (xs ys : List Store) → s ≡ after w xs → t ≡ after s ys → t ≡ after w (xs ++ ys)
@@ -29,9 +26,12 @@ let_walked fs w s t f a b h e g = two_walked w s t (stores fs a) (stores (form_o
 pub set_walked : (fs : List Form) (w s t : Walk) (f : Form) (x : plain.Slot) (a : Code) (o : Option plain.Slot) → o ≡ source_of a → f ≡ form_of fs a → s ≡ after w (stores fs a) → t ≡ after s (Into x o f ∷ []) → t ≡ after w (stores fs (plain.Set x a))
 set_walked fs w s t f x a o d h e g = two_walked w s t (stores fs a) (Into x (source_of a) (form_of fs a) ∷ []) e (g ∙ (λ i. after s (Into x (d i) (h i) ∷ [])))
 
-pub given_walked : (fs : List Form) (w s t : Walk) (f : Form) (g i : ℕ) (a : Code) → f ≡ form_of fs a → s ≡ after w (stores fs a) → t ≡ after s (Given g i f ∷ []) →
+pub given_walked : (fs : List Form) (w s t : Walk) (f : Form) (g i : ℕ) (a : Code) (o : Option plain.Slot) → o ≡ source_of a → f ≡ form_of fs a → s ≡ after w (stores fs a) → t ≡ after s (Given g i o f ∷ []) →
     t ≡ after w (stores_given g i fs (plain.At a End))
-given_walked fs w s t f g i a h e k = two_walked w s t (stores fs a) (Given g i (form_of fs a) ∷ []) e (k ∙ ap (λ (y : Form). after s (Given g i y ∷ [])) h)
+given_walked fs w s t f g i a o d h e k = two_walked w s t (stores fs a) (Given g i (source_of a) (form_of fs a) ∷ []) e (k ∙ (λ j. after s (Given g i (d j) (h j) ∷ [])))
+
+pub line_walked : (fs : List Form) (w s t : Walk) (a : Code) → s ≡ after w (Asked ∷ []) → t ≡ after s (stores (a_value ∷ fs) a) → t ≡ after w (stores fs (plain.AskLine a))
+line_walked fs w s t a e h = two_walked w s t (Asked ∷ []) (stores (a_value ∷ fs) a) e h
 
 -- an operand before others
 
@@ -52,8 +52,8 @@ given_first : (f i : ℕ) (fs : List Form) (w s : Walk) (x : Operand) (xs : List
     after s (stores_given f (suc i) fs (views xs)) ≡ after w (stores_given f i fs (views (x ∷ xs)))
 given_first f i fs w s (operand.Code a) xs e =
     ap (λ (u : Walk). after u (stores_given f (suc i) fs (views xs))) e
-    ∙ after_twice w (stores fs (view a) ++ (Given f i (form_of fs (view a)) ∷ [])) (stores_given f (suc i) fs (views xs))
-    ∙ ap (after w) (append_assoc (stores fs (view a)) (Given f i (form_of fs (view a)) ∷ []) (stores_given f (suc i) fs (views xs)))
+    ∙ after_twice w (stores fs (view a) ++ (Given f i (source_of (view a)) (form_of fs (view a)) ∷ [])) (stores_given f (suc i) fs (views xs))
+    ∙ ap (after w) (append_assoc (stores fs (view a)) (Given f i (source_of (view a)) (form_of fs (view a)) ∷ []) (stores_given f (suc i) fs (views xs)))
 given_first f i fs w s (operand.Constant n) xs e = ap (λ (u : Walk). after u (stores_given f (suc i) fs (views xs))) e
 given_first f i fs w s operand.Fresh xs e = ap (λ (u : Walk). after u (stores_given f (suc i) fs (views xs))) e
 

@@ -6,11 +6,11 @@ use Rattle.std.proofs.lemmas.List.Elements.{recursion_from_All}
 use Rattle.folding.specs.Folding.{fold}
 use Rattle.mid_program.specs.Mid.{Kind, Program, Unboxed, parameters_at}
 use Rattle.mid_program.specs.Mid as mid
-use Rattle.mid_program.specs.Sorted.{calls_of, has_kind, is_number, kinds_of}
+use Rattle.mid_program.specs.Sorted.{calls_of, has_kind, is_number, kinds_of, lender_at}
 use Rattle.sem_scripts.specs.Names.{Resolved, function_at}
 use Rattle.mid_program.specs.Texts.{texts_of_script}
 use Rattle.mid_program.specs.Translation.{program_of}
-use Rattle.mid_program.specs.Stores.{Given, Into}
+use Rattle.mid_program.specs.Stores.{Asked, Given, Into}
 use Rattle.mid_program.specs.Stores as code
 use Rattle.value_kinds.specs.Applied.{apply, is_unboxed}
 use Rattle.value_kinds.specs.Found.{FindsNumbers, GlobalNumber, GlobalTakes, ParameterNumber, Throughout, is_scalar}
@@ -20,6 +20,7 @@ use Rattle.value_kinds.specs.Stores.{Copy, Global, Parameter, Result, Scalar, Sp
 use Rattle.value_kinds.specs.Stores as scripts
 use Rattle.value_kinds.specs.Unboxed.{CopiesNumbers, IsThere, TakesCopies, TakesNumbers, UnboxesNumbers, scalar_name}
 use Rattle.value_kinds.proofs.Expressions.{AllFit, CodeFits, Copied, CopyOf, NumberOrCopyOf, Taker}
+use Rattle.value_kinds.proofs.Lending.{lender_with}
 use Rattle.value_kinds.proofs.NameKinds.{declared_kinds, function_scalars, globals_not_mixed, globals_unboxed, parameters_unboxed, scalars}
 use Rattle.value_kinds.proofs.Scripts.{script_fit}
 use Rattle.value_kinds.proofs.Throughout.{throughout_says}
@@ -37,17 +38,20 @@ no_copy x g i (Some (mid.Parameter u j)) f (inr c) = absurd c
 global_says : (i g : ℕ) (s : code.Store) → CodeFits (alone (Global i)) g s → GlobalNumber i g s
 global_says i g (Into (mid.Global u j) o f) h = λ e. no_copy (Global i) g j o f (h (ap Global (sym e)))
 global_says i g (Into (mid.Parameter u j) o f) h = tt
-global_says i g (Given k j f) h = tt
+global_says i g (Given k j o f) h = tt
+global_says i g Asked h = tt
 
 parameter_says : (f i g : ℕ) (s : code.Store) → CodeFits (alone (Parameter f i)) g s → ParameterNumber f i g s
 parameter_says f i g (Into (mid.Global u j) o w) h = tt
 parameter_says f i g (Into (mid.Parameter u j) o w) h = λ d e. h (λ n. Parameter (sym d n) (sym e n))
-parameter_says f i g (Given k j w) h = λ d e. h (λ n. Parameter (sym d n) (sym e n))
+parameter_says f i g (Given k j o w) h = λ d e. h (λ n. Parameter (sym d n) (sym e n))
+parameter_says f i g Asked h = tt
 
 taken_number : (p : Program) (i g : ℕ) (s : code.Store) → GlobalNumber i g s → GlobalTakes p i g s
 taken_number p i g (Into (mid.Global u j) o f) h = λ e. inl (h e)
 taken_number p i g (Into (mid.Parameter u j) o f) h = tt
-taken_number p i g (Given k j f) h = tt
+taken_number p i g (Given k j o f) h = tt
+taken_number p i g Asked h = tt
 
 -- what the script stores into the scalar, in other words
 all_fit : (x : Taker) (P : Stored → Type 0) → ((w : Stored) → P w → NumberOrCopyOf x w) → (ss : List Store) → Each (λ (s : Store). s.scalar ≡ x.scalar → P s.stored) ss → AllFit x ss
@@ -100,7 +104,8 @@ module _ (finds : (p : Program) → FindsNumbers p) (script : Resolved) where
   taken_says : (i g : ℕ) (s : code.Store) → CodeFits (copier i) g s → GlobalTakes plain i g s
   taken_says i g (Into (mid.Global u j) o f) h = λ e. number_or_copy i g o f (h (ap Global (sym e)))
   taken_says i g (Into (mid.Parameter u j) o f) h = tt
-  taken_says i g (Given k j f) h = tt
+  taken_says i g (Given k j o f) h = tt
+  taken_says i g Asked h = tt
 
   copies_stored : (w : Stored) → CopiesNumbers script w → CopyOf Counts w
   copies_stored (Copy (Global j)) c = c
@@ -134,5 +139,8 @@ module _ (finds : (p : Program) → FindsNumbers p) (script : Resolved) where
     copies = λ i x s h. global_unboxed i (global_scalar i x s) (copies_fit i h);
     parameters = λ f i x s h.
         let scalar = parameter_scalar f i x s in
-        parameters_unboxed (infer plain).globals (parameters_at (infer plain).parameters) plain.routines f i ((finds plain).parameters f i scalar (parameter_numbers f i h)) scalar;
+        let found = (finds plain).parameters f i scalar (parameter_numbers f i h) in (
+          parameters_unboxed (infer plain).globals (parameters_at (infer plain).parameters) plain.routines f i found.0 scalar,
+          lender_with (lender_at (infer plain).lenders) plain.lenders i found.1,
+        );
   }

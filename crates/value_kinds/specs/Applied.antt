@@ -1,9 +1,9 @@
 -- A program with lanes at its names.
-use Rattle.std.specs.Prelude.{ℕ, zero, suc, Bool, not, ◌&&◌, List, [], ◌∷◌}
+use Rattle.std.specs.Prelude.{ℕ, zero, suc, Bool, not, ◌&&◌, List, [], ◌∷◌, Option}
 use Rattle.mid_program.specs.Mid.{Kind, Boxed, Unboxed, ArrayKind, Slot, Global, Parameter, Do, Steps, Declared, Routine, Program, parameters_at}
-use Rattle.mid_program.specs.Sorted.{has_kind, scalar_kind}
+use Rattle.mid_program.specs.Sorted.{has_kind, lender_at, scalar_kind}
 use Rattle.mid_program.specs.Rewriting.{steps_in}
-use Rattle.value_kinds.specs.Lanes.{Lanes}
+use Rattle.value_kinds.specs.Lanes.{Lanes, by_place}
 
 abbrev pub is_unboxed : List Kind → ℕ → Bool
 is_unboxed ks i = has_kind ks i Unboxed
@@ -41,8 +41,13 @@ abbrev pub routines_with : (globals : List Kind) → (parameters : ℕ → List 
 routines_with gs ps [] = []
 routines_with gs ps (r ∷ rs) = routine_with gs (ps zero) r ∷ routines_with gs (λ f. ps (suc f)) rs
 
+-- each place of the list gets its lender
+abbrev pub lenders_with : (ℕ → Option ℕ) → List (Option ℕ) → List (Option ℕ)
+lenders_with lender os = by_place (λ i o. lender i) os
+
 abbrev pub apply : Lanes → Program → Program
 apply l p = record p {
+  lenders = lenders_with (lender_at l.lenders) p.lenders;
   globals = globals_with (is_unboxed l.globals) (is_unboxed l.numbers) p.globals;
   routines = routines_with l.globals (parameters_at l.parameters) p.routines;
   begin = steps_with l.globals [] p.begin;

@@ -7,3 +7,4 @@ pub mod Examples
 pub mod Stores
 pub mod Unboxed
 pub mod NumberNameExamples
+pub mod LenderExamples

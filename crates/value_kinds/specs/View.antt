@@ -13,13 +13,19 @@ use Rattle.value_kinds.specs.declared.kept.Kept.{Kept}
 use Rattle.value_kinds.specs.declared.kept.Kept.TheVariants.{Nothing, Last'}
 use Rattle.value_kinds.specs.declared.names.Lanes.{Lanes}
 use Rattle.value_kinds.specs.declared.names.Names.{Names}
+use Rattle.value_kinds.specs.declared.scan.Scan.{Scan}
 use Rattle.value_kinds.specs.declared.walk.Walk.{Walk}
 
 abbrev pub view_kinds : Vec Kind → List plain.Kind
 view_kinds ks = map view_kind ks.items
 
 abbrev pub view_lanes : Lanes → lanes.Lanes
-view_lanes l = record { numbers = map view_kind l.numbers.items; globals = map view_kind l.globals.items; parameters = map view_kinds l.parameters.items }
+view_lanes l = record {
+  numbers = map view_kind l.numbers.items;
+  globals = map view_kind l.globals.items;
+  parameters = map view_kinds l.parameters.items;
+  lenders = l.lenders.items;
+}
 
 -- what becomes of the names in a piece of code
 abbrev pub slots : Names → plain.Slot → plain.Slot
@@ -34,5 +40,8 @@ abbrev pub view_kept : Kept → List plain.Form
 view_kept Nothing = []
 view_kept (Last' form p before) = view_form form ∷ view_kept before
 
+abbrev pub view_scan : Scan → lanes.Scan
+view_scan s = record { free = map view_kind s.free.items; asked = s.asked; wishes = s.wishes.items; numbered = s.numbered.items }
+
 abbrev pub view_walk : Walk → walks.Walk
-view_walk w = record { numbers = view_lanes w.numbers; lanes = view_lanes w.lanes; function = w.function }
+view_walk w = record { numbers = view_lanes w.numbers; lanes = view_lanes w.lanes; scan = view_scan w.scan; function = w.function }

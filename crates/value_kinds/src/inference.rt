@@ -2,12 +2,14 @@
 
 ghost use Rattle.std.specs.Prelude.{◌≡◌, map, IfOk};
 ghost use Rattle.mid_program.specs.View.{view_declared, view_kind, view_mid, view_routine};
-ghost use Rattle.value_kinds.specs.Lanes.{at_first, infer, opened, walked};
+ghost use Rattle.value_kinds.specs.Lanes.{at_first, first_walk, infer, opened, scanned, unseen, walked};
 ghost use Rattle.mid_program.specs.Sorted.{kinds_of};
-ghost use Rattle.value_kinds.specs.View.{view_kinds, view_lanes, view_walk};
+ghost use Rattle.value_kinds.specs.View.{view_kinds, view_lanes, view_scan, view_walk};
 ghost use Rattle.value_kinds.specs.Walks.{after_routines, parameters_in};
 
+use crate::lenders::{grant, none_wished};
 use crate::names::Lanes;
+use crate::scan::Scan;
 use crate::step_marks::mark_steps;
 use crate::walk::Walk;
 use mid_program::{Declared, Kind, Mid, Routine};
@@ -63,6 +65,19 @@ fn at_first(alloc: Global, mid: &Mid) -> Result<Lanes, AllocError>
         numbers: Vec::new(alloc),
         globals: open_globals(alloc, &mid.globals)?,
         parameters: open_routines(alloc, &mid.routines)?,
+        lenders: Vec::new(alloc),
+    })
+}
+
+/// What the scan knows at first.
+fn unseen(alloc: Global, mid: &Mid) -> Result<Scan, AllocError>
+    ensures { IfOk result (λ scan. view_scan scan ≡ unseen (view_mid mid.now)) }
+{
+    Ok(Scan {
+        free: open_globals(alloc, &mid.globals)?,
+        asked: false,
+        wishes: none_wished(alloc, &mid.lenders)?,
+        numbered: vec![in alloc; false; mid.lenders.len()]?,
     })
 }
 
@@ -82,11 +97,13 @@ fn mark_routines(walk: &mut Walk, routines: &[Routine])
 fn walked(alloc: Global, mid: &Mid, numbers: Lanes) -> Result<Walk, AllocError>
     ensures lanes { IfOk result
         (λ walk. view_lanes walk.lanes ≡ walked (view_lanes numbers) (view_mid mid.now)) }
+    ensures scan { IfOk result (λ walk. view_scan walk.scan ≡ scanned (view_mid mid.now)) }
     ensures numbers { IfOk result (λ walk. view_lanes walk.numbers ≡ view_lanes numbers) }
 {
     let mut walk = Walk {
         numbers,
         lanes: at_first(alloc, mid)?,
+        scan: unseen(alloc, mid)?,
         function: 0,
     };
     mark_routines(&mut walk, &mid.routines);
@@ -96,9 +113,34 @@ fn walked(alloc: Global, mid: &Mid, numbers: Lanes) -> Result<Walk, AllocError>
     Ok(walk)
 }
 
+/// The names of numbers, and the globals that lend their values.
+fn first_walk(alloc: Global, mid: &Mid) -> Result<Lanes, AllocError>
+    ensures { IfOk result (λ lanes. view_lanes lanes ≡ first_walk (view_mid mid.now)) }
+{
+    let no_names = Lanes {
+        numbers: Vec::new(alloc),
+        globals: Vec::new(alloc),
+        parameters: Vec::new(alloc),
+        lenders: Vec::new(alloc),
+    };
+    let walk = walked(alloc, mid, no_names)?;
+    let mut lanes = walk.lanes;
+    let mut scan = walk.scan;
+    grant(
+        scan.asked,
+        &scan.free,
+        &scan.numbered,
+        &lanes.parameters,
+        &mut scan.wishes,
+    );
+    lanes.lenders = scan.wishes;
+    Ok(lanes)
+}
+
 /// Which names of a script's code are unboxed: each scalar, unless something else than a number is stored into it, or something else than a number or
-/// nothing is given for it as an argument; a global too if copies of such scalars are stored into it. Two walks find this, since a name is known to take
-/// numbers alone only once all code was seen: it takes time linear in the code.
+/// nothing is given for it as an argument; a global too if copies of such scalars are stored into it; and a parameter too if it is given numbers and copies of
+/// a global that lends its value. Two walks find this, since a name is known to take numbers alone only once all code was seen: it takes time linear in the
+/// code.
 ///
 /// # Errors
 ///
@@ -106,18 +148,14 @@ fn walked(alloc: Global, mid: &Mid, numbers: Lanes) -> Result<Walk, AllocError>
 pub fn infer(alloc: Global, mid: &Mid) -> Result<Lanes, AllocError>
     ensures { IfOk result (λ lanes. view_lanes lanes ≡ infer (view_mid mid.now)) }
 {
-    let no_names = Lanes {
-        numbers: Vec::new(alloc),
-        globals: Vec::new(alloc),
-        parameters: Vec::new(alloc),
-    };
-    let first = walked(alloc, mid, no_names)?;
-    let second = walked(alloc, mid, first.lanes)?;
+    let first = first_walk(alloc, mid)?;
+    let second = walked(alloc, mid, first)?;
     let numbers = second.numbers;
     let lanes = second.lanes;
     Ok(Lanes {
         numbers: numbers.globals,
         globals: lanes.globals,
         parameters: lanes.parameters,
+        lenders: numbers.lenders,
     })
 }

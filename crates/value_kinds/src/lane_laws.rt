@@ -13,13 +13,14 @@ pub fn lanes_keep_the_meaning()
 {}
 
 /// The lanes that are found unbox each scalar into which numbers alone are stored, and for which numbers alone, or nothing, are given as arguments, and each
-/// global into which copies of such scalars are stored besides. Results of operators, of steps and of comparisons are numbers, and so are number constants.
+/// global into which copies of such scalars are stored besides; nothing lends where such a parameter is. Results of operators, of steps and of comparisons are
+/// numbers, and so are number constants.
 pub fn numbers_are_unboxed()
     ensures { (p : Program) → FindsNumbers p }
 {}
 
 /// A program that is well sorted stays so with the lanes that are found: into an unboxed name numbers alone are stored, or, into a mixed global, copies of
-/// unboxed names; and for an unboxed parameter numbers alone, or nothing, are given.
+/// unboxed names; for an unboxed parameter numbers alone, or nothing, are given, or copies of the global that lends there; and into that nothing is stored.
 pub fn found_lanes_leave_sorted()
     ensures { (p : Program) → IsSorted p → IsSorted (apply (infer p) p) }
 {}

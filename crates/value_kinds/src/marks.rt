@@ -72,7 +72,12 @@ pub(crate) fn mark_code<'a>(walk: &mut Walk, kept: &'a Kept<'a>, code: &Code) ->
             mark_arguments(walk, kept, *function, operands);
             Form::NumberOrText
         }
+        Code::Ask => {
+            walk.ask();
+            NUMBER
+        }
         Code::AskLine(store) => {
+            walk.ask();
             mark_code(walk, &Kept::Last(TEXT, kept), store);
             NUMBER
         }
@@ -113,7 +118,7 @@ pub(crate) fn mark_code<'a>(walk: &mut Walk, kept: &'a Kept<'a>, code: &Code) ->
         }
         Code::Get(slot) => Form::of_slot(*slot),
         Code::Bound(_, place) => form_at(kept, *place),
-        Code::Ask | Code::Number(_) => NUMBER,
+        Code::Number(_) => NUMBER,
         Code::Text(_) => TEXT,
         Code::Unset => Form::OptionalNumber,
         Code::Array(_) => Form::PrimitiveAnswer(Answer::Of(Sort::Array)),
@@ -170,7 +175,7 @@ fn mark_argument<'a>(
     match operand {
         Operand::Code(code) => {
             let form = mark_code(walk, kept, code);
-            walk.give(function, place, form);
+            walk.give(function, place, source_of(code), form);
         }
         Operand::Constant(_) | Operand::Fresh => {}
     }

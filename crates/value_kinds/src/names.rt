@@ -19,6 +19,8 @@ pub struct Lanes {
     pub globals: Vec<Kind>,
     /// For each function, by the places of its parameters. An unboxed one is a number, or nothing yet.
     pub parameters: Vec<Vec<Kind>>,
+    /// By the places of parameters, the global that lends its value there, to unboxed parameters that have no number.
+    pub lenders: Vec<Option<usize>>,
 }
 
 /// The lanes where a piece of code stands.

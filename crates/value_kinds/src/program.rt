@@ -7,6 +7,7 @@ ghost use Rattle.mid_program.specs.SameRuns.{SameRuns};
 ghost use Rattle.value_kinds.specs.Applied.{apply, global_with, globals_with, is_unboxed, kind_with, kinds_with, routine_with, routines_with};
 ghost use Rattle.value_kinds.specs.View.{view_lanes};
 
+use crate::lenders::lane_lenders;
 use crate::names::{Lanes, Names, is_unboxed, kind_with};
 use crate::step::lane_steps;
 use mid_program::{Declared, Kind, Mid, Routine};
@@ -95,6 +96,7 @@ pub fn apply(mid: Mid, lanes: &Lanes) -> Result<Mid, (Mid, AllocError)>
     ensures same_meaning { IfOk result (λ new. SameRuns (view_mid new) (view_mid mid)) }
 {
     let mut mid = mid;
+    lane_lenders(&lanes.lenders, &mut mid.lenders);
     lane_globals(&lanes.globals, &lanes.numbers, &mut mid.globals);
     lane_routines(lanes, &mut mid.routines);
     let names = Names {

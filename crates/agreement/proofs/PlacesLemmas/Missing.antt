@@ -1,23 +1,23 @@
 -- In well-sorted code a call makes an array for each array parameter that it has no argument for, and for nothing else.
-use Rattle.std.proofs.Common.{◌≡◌, inl, inr, ℕ, suc, Bool, true, false, T, ◌&&◌, List, [], ◌∷◌, ◌++◌, refl, ap, subst, arith}
+use Rattle.std.proofs.Common.{◌≡◌, inl, inr, ℕ, suc, Bool, true, false, T, ◌&&◌, List, [], ◌∷◌, ◌++◌, Option, refl, ap, subst, arith}
 use Rattle.std.specs.List.{Contains}
 use Rattle.std.proofs.lemmas.Bool.{and_parts}
 use Rattle.std.proofs.lemmas.List.Elements.{Contains-append_cases}
 use Rattle.mid_program.specs.Mid as mid
 use Rattle.mid_program.specs.Mid.{Kind, Boxed, Unboxed, ArrayKind, Code, Do, Over, Compare, Call, Ask, AskLine, FileLine, Replace, Number, Text, Unset, Get, Set, Array, IsOpen, Choose, Seq, Let, Bound, Codes, End, At, Fixed, Fresh, Form, Step, Eval, Each, Break, Continue, Next, Exit, ExitWith, Return, Mark, Steps, NoStep, Program, Routine, a_value, form_of, parameters_at}
-use Rattle.mid_program.specs.Sorted.{Context, IsSorted, all_differ, all_sorted, announced_names, calls_of, context_of, fit_call, fits, is_chosen, is_sorted, is_tested, parts_sorted, routines_sorted, sorted, step_sorted, steps_sorted}
+use Rattle.mid_program.specs.Sorted.{Context, IsSorted, all_differ, all_sorted, announced_names, are_lenders, calls_of, context_of, fit_call, fits, is_chosen, is_sorted, is_tested, kinds_of, lender_at, parts_sorted, routines_sorted, sorted, step_sorted, steps_sorted}
 use Rattle.lower_model.specs.Machine.{Callee}
 use Rattle.lower_model.specs.Places.{made_in}
 use Rattle.agreement.specs.Places.Calls.{HasCall, code_calls, codes_calls, main_calls, missing_arrays, step_calls, steps_calls}
 use Rattle.agreement.proofs.PlacesLemmas.Given.{first_or}
 
-made_missing : (fs : List Form) (ks : List Kind) (es : Codes) → fit_call fs ks es ≡ true → made_in es ≡ missing_arrays ks es
-made_missing fs [] End h = refl
-made_missing fs (Boxed ∷ ks) (At e es) h = made_missing fs ks es (and_parts _ _ h).1
-made_missing fs (Unboxed ∷ ks) (At e es) h = made_missing fs ks es (and_parts _ _ h).1
-made_missing fs (ArrayKind ∷ ks) (At e es) h = made_missing fs ks es (and_parts _ _ h).1
-made_missing fs (ArrayKind ∷ ks) (Fresh es) h = ap suc (made_missing fs ks es h)
-made_missing fs ks es h = cc
+made_missing : (lender : ℕ → Option ℕ) (fs : List Form) (ks : List Kind) (es : Codes) → fit_call lender fs ks es ≡ true → made_in es ≡ missing_arrays ks es
+made_missing lender fs [] End h = refl
+made_missing lender fs (Boxed ∷ ks) (At e es) h = made_missing (λ i. lender (suc i)) fs ks es (and_parts _ _ h).1
+made_missing lender fs (Unboxed ∷ ks) (At e es) h = made_missing (λ i. lender (suc i)) fs ks es (and_parts _ _ h).1
+made_missing lender fs (ArrayKind ∷ ks) (At e es) h = made_missing (λ i. lender (suc i)) fs ks es (and_parts _ _ h).1
+made_missing lender fs (ArrayKind ∷ ks) (Fresh es) h = ap suc (made_missing (λ i. lender (suc i)) fs ks es h)
+made_missing lender fs ks es h = cc
 
 module _ (c : Context) where
   abbrev Fits : ℕ → Codes → Type 0
@@ -48,9 +48,9 @@ module _ (c : Context) where
         joined (code_calls a) (code_calls b) (code_fits a fs w.0) (code_fits b fs w.1)
     code_fits (Call f es) fs h =
         let w = and_parts _ _ (and_parts _ _ h).1 in
-        one_more f es (codes_calls es) (made_missing fs (parameters_at c.calls f) es w.0) (codes_fits es fs w.1)
+        one_more f es (codes_calls es) (made_missing (lender_at c.lenders) fs (parameters_at c.calls f) es w.0) (codes_fits es fs w.1)
     code_fits Ask fs h = none
-    code_fits (AskLine s) fs h = code_fits s (a_value ∷ fs) (and_parts _ _ h).1
+    code_fits (AskLine s) fs h = code_fits s (a_value ∷ fs) (and_parts _ _ (and_parts _ _ h).1).1
     code_fits (FileLine e s) fs h =
         let w = and_parts _ _ (and_parts _ _ h).1 in
         joined (code_calls e) (code_calls s) (code_fits e fs w.0) (code_fits s (a_value ∷ fs) (and_parts _ _ w.1).1)
@@ -131,7 +131,9 @@ module _ (p : Program) (well : IsSorted p) where
   whole : (routines_sorted p p.routines ≡ true) × (parts_sorted p (context_of p []) ≡ true)
   whole =
       let main = parts_sorted p (context_of p []) in
-      and_parts (routines_sorted p p.routines) main (and_parts (all_differ (announced_names p)) (routines_sorted p p.routines && main) (from_T (is_sorted p) well)).1
+      let code = routines_sorted p p.routines && main in
+      let lend = are_lenders (kinds_of p.globals) p.lenders in
+      and_parts (routines_sorted p p.routines) main (and_parts lend code (and_parts (all_differ (announced_names p)) (lend && code) (from_T (is_sorted p) well)).1).1
 
   abbrev Missing : ℕ → Codes → Type 0
   Missing f es = made_in es ≡ missing_arrays (parameters_at (calls_of p) f) es

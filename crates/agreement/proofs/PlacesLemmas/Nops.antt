@@ -26,10 +26,10 @@ use Rattle.mid_program.specs.declared.mid.Operation.TheVariants.{Host, Inline, A
 use Rattle.mid_program.specs.MidMeaning.{three_values}
 use Rattle.sem_scripts.specs.Names.{ArrayName, Numbered, Given}
 use Rattle.mid_program.specs.Mid.{Kind, Boxed, Unboxed, ArrayKind, Slot, Global, Parameter, Code, Do, Over, Compare, Call, Ask, AskLine, FileLine, Replace, Number, Text, Unset, Get, Set, Array, IsOpen, Choose, Seq, Let, Bound, Codes, End, At, Fixed, Fresh, Form, PrimitiveAnswer, NumberOrText, OptionalNumber, a_value, form_of, form_at, arguments, parameters_at}
-use Rattle.mid_program.specs.Sorted.{count_of}
+use Rattle.mid_program.specs.Sorted.{count_of, lender_at}
 use Rattle.lower_model.specs.Arithmetic.{calculated, compared, field_checked, is_value, may_be_text, numbers_compared, texts_beside, values_compared, zeroed_if}
 use Rattle.lower_model.specs.Boundaries.{is_nop}
-use Rattle.lower_model.specs.Emission.{Layout, Immediate, FieldOf, TextOf, NumberOf, name_read, source_pushed, added_or, immediate_in, immediate_or, immediate_pushed, all_appended, all_boxed, all_converted, all_emitted, all_freed, all_given, all_given_pushed, all_pushed, array_meant, array_pushed, asked, assigned, assigned_by_number, bound_read, dropped, emitted, field_in, field_or, function_number, handle_stored, keeping_closed, left_over, listed_asked, one_given, one_pushed, pending_assigned, performed, sequence_closed, slot_read, slot_set, tested, text_kept, text_let_go, value_stored}
+use Rattle.lower_model.specs.Emission.{Layout, Immediate, FieldOf, TextOf, NumberOf, name_read, source_pushed, added_or, immediate_in, immediate_or, immediate_pushed, all_appended, all_boxed, all_converted, all_emitted, all_freed, all_given, all_given_pushed, all_pushed, array_meant, array_pushed, asked, assigned, assigned_by_number, bound_read, dropped, emitted, field_in, field_or, function_number, handle_stored, keeping_closed, left_over, lent, listed_asked, one_given, one_pushed, parameter_read, pending_assigned, performed, sequence_closed, slot_read, slot_set, tested, text_kept, text_let_go, value_stored}
 use Rattle.host_imports.specs.Imports.{import_count, imports}
 use Rattle.host_imports.specs.Names.{import_number}
 use Rattle.lower_model.specs.Machine.{answers_to, arrays_freed, freed_next}
@@ -248,11 +248,15 @@ module _ (y : Layout) (l : Limit) (G : (t f : ℕ) → Codes → Type 0)
     array_nops (Numbered (suc (suc i))) r = record { are = r.are; calls = r.calls; frees = r.frees }
     array_nops (Given i) r = record { are = r.are; calls = r.calls; frees = r.frees }
 
+    parameter_nops : (o : Option ℕ) (i t : ℕ) → Nops l k m → Nops l (parameter_read y o i t k) m
+    parameter_nops None i t r = record { are = r.are; calls = r.calls; frees = r.frees }
+    parameter_nops (Some g) i t r = record { are = r.are; calls = r.calls; frees = r.frees }
+
     read_nops : (x : Slot) (t : ℕ) → Nops l k m → Nops l (slot_read y x t k) m
     read_nops (Global false i) t r = record { are = r.are; calls = r.calls; frees = r.frees }
     read_nops (Global true i) t r = record { are = r.are; calls = r.calls; frees = r.frees }
     read_nops (Parameter false i) t r = record { are = r.are; calls = r.calls; frees = r.frees }
-    read_nops (Parameter true i) t r = record { are = r.are; calls = r.calls; frees = r.frees }
+    read_nops (Parameter true i) t r = parameter_nops (lender_at y.lenders i) i t r
 
     handle_nops : (o : Bool) (t : ℕ) (put : Simple) → is_plain put ≡ true → Nops l k m → Nops l (handle_stored y o t put k) m
     handle_nops true t put e r = let x = plain put e r in record { are = x.are; calls = x.calls; frees = x.frees }
@@ -340,8 +344,14 @@ module _ (y : Layout) (l : Limit) (G : (t f : ℕ) → Codes → Type 0)
     listed_nops (listed.Print to) c t d r = record { are = r.are; calls = r.calls; frees = r.frees }
     listed_nops (listed.Printf to) c t d r = record { are = r.are; calls = r.calls; frees = r.frees }
 
+  module _ {k : Instructions} {m : List Instructions} where
+    lent_nops : (f : Form) (t : ℕ) → Nops l k m → Nops l (lent y f t k) m
+    lent_nops NumberOrText t r = record { are = r.are; calls = r.calls; frees = r.frees }
+    lent_nops f t r = r
+
   given_nops : {k : Instructions} {m : List Instructions} (fs : List Form) (ks : List Kind) (es : Codes) (t : ℕ) → Nops l k m → Nops l (all_given y fs ks es t k) m
   given_nops fs (Boxed ∷ ks) (At e es) t r = to_value_nops b (form_of fs e) t (given_nops fs ks es (suc t) r)
+  given_nops fs (Unboxed ∷ ks) (At e es) t r = lent_nops (form_of fs e) t (given_nops fs ks es (suc t) r)
   given_nops fs (kind ∷ ks) (At e es) t r = given_nops fs ks es (suc t) r
   given_nops fs (kind ∷ ks) (Fresh es) t r = given_nops fs ks es t r
   given_nops fs ks es t r = r

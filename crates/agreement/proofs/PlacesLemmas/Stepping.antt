@@ -11,6 +11,7 @@ use Rattle.wasm_types.specs.declared.instr.IBinOp.{IBinOp}
 use Rattle.wasm_types.specs.declared.instr.Simple.{Simple}
 use Rattle.wasm_types.specs.declared.instr.Simple.TheVariants.{Br, BrIf, Nop}
 use Rattle.mid_program.specs.Mid.{Kind, Boxed, Unboxed, ArrayKind, Parameter, Slot, Code, Do, Over, Compare, Number, Text, Array, IsOpen, Seq, Codes, End, At, Fixed, Fresh, Get, Step, Eval, Block as Steps_, If as Either, Loop, Each, Break, Continue, Next, Exit, ExitWith, Return, Mark, Steps, NoStep, Then as AndThen, Program, Routine, Choose, Form, PrimitiveAnswer, NumberOrText, OptionalNumber, a_value, form_of}
+use Rattle.mid_program.specs.Sorted.{lender_at}
 use Rattle.sem_scripts.specs.Names.{ArrayName}
 use Rattle.lower_model.specs.Appends.{Append, append_in, are_still, is_still}
 use Rattle.lower_model.specs.Boundaries.{is_nop, nops_in, nops_of, step_places, steps_places}
@@ -20,7 +21,7 @@ use Rattle.lower_model.specs.Noted.{routine_rest}
 use Rattle.lower_model.specs.Places.{Bases, handle_local, made_in}
 use Rattle.lower_model.specs.Quick.{Within, test_within, Source, Holder, OfName, OfParameter, Held, Constant, Sum, sum_names, sum_op, sum_in, Update, update_in, Tally, tally_in, Remainder, remainder_in, remainder_names, multiplied, Counted, counted_in, Pair, pair_names, pair_in, step_jumps, is_nothing}
 use Rattle.lower_model.specs.Small.{emit, emit_if}
-use Rattle.lower_model.specs.Statements.{name_numbered, source_numbered, source_taken, sum_kept, sum_taken, summed_anyway, both_asked, element_numbered, element_given, text_appended, chain_appended, appended_dropped, remainder_taken, remainder_dropped, barely_dropped, plainly_dropped, quickly_dropped, left_unless_counted, left_unless_pair, left_unless, all_emptied, arrays_emptied, arrays_swept, before_parts, block, first_part, goes_on, has_functions, iterator_left, iterators_emptied, iterators_swept, key_stored, left_by, left_swept, main_body, names_declared, names_made, parameters_dropped, part_done, record_done, records_read, routine_body, routines_declared, started, step_emitted, steps_emitted, swept, temporaries_emptied, temporaries_swept, answer_given, returned, name_put, counted_left}
+use Rattle.lower_model.specs.Statements.{parameter_found, name_numbered, source_numbered, source_taken, sum_kept, sum_taken, summed_anyway, both_asked, element_numbered, element_given, text_appended, chain_appended, appended_dropped, remainder_taken, remainder_dropped, barely_dropped, plainly_dropped, quickly_dropped, left_unless_counted, left_unless_pair, left_unless, all_emptied, arrays_emptied, arrays_swept, before_parts, block, first_part, goes_on, has_functions, iterator_left, iterators_emptied, iterators_swept, key_stored, left_by, left_swept, main_body, names_declared, names_made, parameters_dropped, part_done, record_done, records_read, routine_body, routines_declared, started, step_emitted, steps_emitted, swept, temporaries_emptied, temporaries_swept, answer_given, parameter_returned, returned, name_put, counted_left}
 use Rattle.lower_model.proofs.Chains.{IsChain, one_text, more_texts, append_is, last_appended}
 use Rattle.lower_model.proofs.Tallies.{Shape, Updating, Following, Leading, tally_code, IsAdded, tally_is}
 use Rattle.lower_model.proofs.Updating.{added_is}
@@ -120,9 +121,13 @@ module _ (y : Layout) (l : Limit) (G : (t f : ℕ) → Codes → Type 0)
 
   -- sums in all cases
 
+  found_nops : {k : Instructions} {m : List Instructions} (o : Option ℕ) (t d : ℕ) → Nops l k m → Nops l (parameter_found y o t d k) m
+  found_nops None t d r = record { are = r.are; calls = r.calls; frees = r.frees }
+  found_nops (Some g) t d r = record { are = r.are; calls = r.calls; frees = r.frees }
+
   name_nops : {k : Instructions} {m : List Instructions} (i : Holder) (t d : ℕ) → Nops l k m → Nops l (name_numbered y i t d k) m
   name_nops (OfName i) t d r = record { are = r.are; calls = r.calls; frees = r.frees }
-  name_nops (OfParameter i) t d r = record { are = r.are; calls = r.calls; frees = r.frees }
+  name_nops (OfParameter i) t d r = plain _ refl (plain _ refl (plain _ refl (plain _ refl (choice (found_nops (lender_at y.lenders i) t d none) none r))))
 
   numbered_nops : {k : Instructions} {m : List Instructions} (x : Source) (t d : ℕ) → Nops l k m → Nops l (source_numbered y x t d k) m
   numbered_nops (Held i) t d r = name_nops i t d r
@@ -234,12 +239,16 @@ module _ (y : Layout) (l : Limit) (G : (t f : ℕ) → Codes → Type 0)
   answer_nops OptionalNumber d r = record { are = r.are; calls = r.calls; frees = r.frees }
   answer_nops f d r = record { are = r.are; calls = r.calls; frees = r.frees }
 
+  parameter_nops : {k : Instructions} {m : List Instructions} (o : Option ℕ) (i d : ℕ) → Nops l k m → Nops l (parameter_returned y o i d k) m
+  parameter_nops None i d r = plain _ refl (plain _ refl (plain _ refl r))
+  parameter_nops (Some g) i d r = emitted_nops y l G enough false [] [] (Get (Parameter true i)) zero zero d (λ z. tt) (answer_nops NumberOrText d r)
+
   returned_nops : {k : Instructions} {m : List Instructions} (e : Code) (d : ℕ) → (l.asked ≡ true → Meets G zero e) → Nops l k m → Nops l (returned y e d k) m
   returned_nops (Choose sort.Value e a c) d lo r =
       whichever (is_some (pair_in e))
       (within (pair_nops (pair_in e) e (suc d) zero (λ z. (lo z).0) (returned_nops a (suc d) (λ z. (lo z).1.0) none)) (returned_nops c d (λ z. (lo z).1.1) r))
       (tested_nops y l G enough [] [] e zero zero d (λ z. (lo z).0) (choice (returned_nops a (suc d) (λ z. (lo z).1.0) none) (returned_nops c (suc d) (λ z. (lo z).1.1) none) r))
-  returned_nops (Get (Parameter true i)) d lo r = plain _ refl (plain _ refl (plain _ refl r))
+  returned_nops (Get (Parameter true i)) d lo r = parameter_nops (lender_at y.lenders i) i d r
   returned_nops e d lo r = emitted_nops y l G enough false [] [] e zero zero d lo (answer_nops (form_of [] e) d r)
 
   mutual

@@ -46,7 +46,7 @@ abbrev pub NoHandles : Program → Conf → (ℕ → Type 0) → Type 0
 NoHandles p c Assigned = (i : ℕ) → has_kind (kinds_of p.globals) i Unboxed ≡ true → is_mixed (mixed_of p.globals) i ≡ false → (Assigned i → ⊥) → slice_get c.globals (handle_global p.ranges i) ≡ Some (I32 minus_one)
 
 module _ (p : Program) (c : Conf) (s : HostState) (here : AtStatement p c s) (Assigned : ℕ → Type 0) (no_handles : NoHandles p c Assigned) where
-  pub no_text : (b : Bases) → b.parameters ≡ length here.at.function.kinds → (x : Slot) → IsLaned p here.at.function.kinds Assigned x → HasNoText p.ranges b c x
+  pub no_text : (b : Bases) → b.parameters ≡ length here.at.function.kinds → (x : Slot) → IsLaned p here.at.function.kinds Assigned x → HasNoText p.ranges p.lenders b c x
   no_text b e (Global true i) h =
       let n : ℕ = first_name p in
       let none = no_handles i h.0 h.1 h.2 in (
@@ -54,7 +54,9 @@ module _ (p : Program) (c : Conf) (s : HostState) (here : AtStatement p c s) (As
         λ z. unmarked_at (kinds_of p.globals) (drop n c.globals) here.by_kinds.marked i (i + i) refl h.0 (behind n c.globals (i + i) (handle_global p.ranges i) (omega arith) ∙ none)
             (behind n c.globals (suc (i + i)) (number_global p.ranges i) (omega arith) ∙ z),
       )
-  no_text b e (Parameter true i) h = let l = kind_below here.at.function.kinds i Unboxed h in (omega (arith, l, e), bare_at here.at.function.kinds c.frame.locals here.by_kinds.bare i h)
+  no_text b e (Parameter true i) h =
+      let l = kind_below here.at.function.kinds i Unboxed h.0 in
+      (omega (arith, l, e), bare_at here.at.function.kinds c.frame.locals here.by_kinds.bare i h.0, h.1)
   no_text b e (Global false i) h = absurd h
   no_text b e (Parameter false i) h = absurd h
 
@@ -73,7 +75,7 @@ module _ (p : Program) (c : Conf) (s : HostState) (here : AtStatement p c s) (As
     after = a.after;
     code = a.code;
     target_is = no_text a.bases a.parameters a.target a.target_is;
-    sum = sum_weaker (IsLaned p here.at.function.kinds Assigned) (HasNoText p.ranges a.bases c) (no_text a.bases a.parameters) a.expression a.sum;
+    sum = sum_weaker (IsLaned p here.at.function.kinds Assigned) (HasNoText p.ranges p.lenders a.bases c) (no_text a.bases a.parameters) a.expression a.sum;
   }
 
   pub next_is : (a : AtLaned p c s here Assigned) (there : Conf) → AtNext p c (at_sum a) there → IsNext p c a.bases (Then a.next a.further) a.iterators a.out a.breaking a.continuing a.after there

@@ -8,13 +8,14 @@ use Rattle.wasm_model.specs.Frames.{LabelForm}
 use Rattle.wasm_model.specs.Machines.{Conf, ProgramForm}
 use Rattle.mid_program.specs.declared.mid.Arithmetic.TheVariants as inline
 use Rattle.mid_program.specs.Mid.{Code, Eval, Global, Parameter, Set, Slot, Step, Steps, Then, form_of}
+use Rattle.mid_program.specs.Sorted.{lender_at}
 use Rattle.lower_model.specs.Appends.{Append, append_in}
 use Rattle.lower_model.specs.Emission.{Layout, dropped, emitted, all_emitted}
 use Rattle.lower_model.specs.Places.{number_local}
 use Rattle.lower_model.specs.Quick.{Constant, Holder, OfName, OfParameter, Held, Remainder, Source, Sum, remainder_in, set_sum, source_in, sum_in, sum_names, sum_of, sum_op}
 use Rattle.lower_model.specs.Small.{text_beside, emit}
 use Rattle.lower_model.proofs.State.{holder_slot}
-use Rattle.lower_model.specs.Statements.{appended_dropped, name_numbered, quickly_dropped, remainder_dropped, source_numbered, source_taken, step_emitted, steps_emitted, sum_taken, summed, summed_anyway, name_put}
+use Rattle.lower_model.specs.Statements.{appended_dropped, parameter_found, name_numbered, quickly_dropped, remainder_dropped, source_numbered, source_taken, step_emitted, steps_emitted, sum_taken, summed, summed_anyway, name_put}
 use Rattle.lower_model.proofs.QuickNames.{near_sum, some_is}
 use Rattle.agreement.specs.Quiet.Sums.{HasNoText, IsSum, constant, itself, joined as sum_of_two, name}
 use Rattle.agreement.proofs.QuietLemmas.Flowing.{Flows, arrived, at, binary, branch, compare, const64, ended, get, get_global, nop, set, set_global, tee}
@@ -36,7 +37,7 @@ module _ (m : ProgramForm) (P : Conf → Type 0) (bs : List Bool) (base : Conf) 
   -- Sums in all cases: no text stands beside a name, so none is asked for its number.
 
   abbrev NoText : Slot → Type 0
-  NoText x = HasNoText y.ranges y.bases base x
+  NoText x = HasNoText y.ranges y.lenders y.bases base x
 
   abbrev SourceClear : Source → Type 0
   SourceClear (Held i) = NoText (holder_slot i)
@@ -101,6 +102,12 @@ module _ (m : ProgramForm) (P : Conf → Type 0) (bs : List Bool) (base : Conf) 
   no_append (Global false i) e h = absurd h
   no_append (Parameter false i) e h = refl
 
+  -- nothing lends at the place of a parameter
+  found_flows : {K : List LabelForm} {k : Instructions} (o : Option ℕ) (t d : ℕ) (L : List Word) → o ≡ None →
+      ((M : List Word) → Flows m P bs base K base.globals M [] k) → Flows m P bs base K base.globals L [] (parameter_found y o t d k)
+  found_flows None t d L e next = const64 (set (λ f. next _))
+  found_flows (Some g) t d L e next = cc
+
   numbered_flows : {K : List LabelForm} {k : Instructions} (x : Holder) (t d : ℕ) (L : List Word) → NoText (holder_slot x) → ((M : List Word) → Flows m P bs base K base.globals M [] k) →
       Flows m P bs base K base.globals L [] (name_numbered y x t d k)
   numbered_flows (OfName i) t d L h next =
@@ -110,7 +117,8 @@ module _ (m : ProgramForm) (P : Conf → Type 0) (bs : List Bool) (base : Conf) 
       (λ j2 i2 z2. const64 (set (λ g. ended (ended (next _)))))))
       (λ j1 i1 z1. ended (next _))))))
   numbered_flows (OfParameter i) t d L h next =
-      get (λ w e. tee (λ f. const64 (compare (λ w1 v1. branch (λ j1 i1 z1. const64 (set (λ g. ended (next _)))) (λ j1 i1 z1. ended (next _))))))
+      get (λ w e. tee (λ f. const64 (compare (λ w1 v1. branch
+      (λ j1 i1 z1. found_flows (lender_at y.lenders i) t d _ h.2 (λ M. ended (next M))) (λ j1 i1 z1. ended (next _))))))
 
   source_numbered_flows : {K : List LabelForm} {k : Instructions} (x : Source) (t d : ℕ) (L : List Word) → SourceClear x → ((M : List Word) → Flows m P bs base K base.globals M [] k) →
       Flows m P bs base K base.globals L [] (source_numbered y x t d k)
@@ -136,7 +144,7 @@ module _ (m : ProgramForm) (P : Conf → Type 0) (bs : List Bool) (base : Conf) 
       source_numbered_flows s.left zero d L h.1.0 (λ M. source_numbered_flows s.right 1 d M h.1.1 (λ N.
       taken_flows s.left zero (λ v. taken_flows s.right 1 (λ w. sum_taken_flows (sum_op s.op) s.target zero d h.0 next))))
 
-  module _ (x : Slot) (e : Code) (target : HasNoText y.ranges y.bases base x) (sum : IsSum (HasNoText y.ranges y.bases base) e) where
+  module _ (x : Slot) (e : Code) (target : NoText x) (sum : IsSum NoText e) where
     dropped_flows : {K : List LabelForm} (d : ℕ) (k : Instructions) → ((gs L : List Word) → Flows m P bs base K gs L [] k) →
         Flows m P bs base K base.globals base.frame.locals [] (dropped y [] [] (Set x e) zero zero d k)
     unfolding emitted all_emitted
@@ -154,7 +162,7 @@ module _ (m : ProgramForm) (P : Conf → Type 0) (bs : List Bool) (base : Conf) 
         all_flows y (sum_names s) _ _ (λ v. branch (λ n q z. anyway_flows s (suc d) (sum_clear x e s h target sum) (λ gs L. ended (next gs L))) (λ n q z. summed_flows s (λ gs M. ended (next gs M))))
 
   pub statement_flows : {K : List LabelForm} (x : Slot) (e : Code) (s : Step) (ss : Steps) (u d bk ct : ℕ) (k : Instructions) →
-      HasNoText y.ranges y.bases base x → IsSum (HasNoText y.ranges y.bases base) e →
+      NoText x → IsSum NoText e →
       ((gs L : List Word) → P (at bs base K gs L [] (steps_emitted y (Then s ss) u d bk ct k))) →
       Flows m P bs base K base.globals base.frame.locals [] (steps_emitted y (Then (Eval (Set x e)) (Then s ss)) u d bk ct k)
   unfolding step_emitted steps_emitted

@@ -1,6 +1,6 @@
 -- A number statement, from its beginning: its expression comes to its temporary, each name's number converted,
 -- and the target takes it. No call is reached but the one that keeps a fault.
-use Rattle.std.proofs.Common.{◌≡◌, ◌≢◌, ℕ, zero, suc, ◌<◌, ◌≤◌, Bool, true, false, List, [], ◌∷◌, length, Option, Some, None, refl, sym, ap, ◌∙◌, arith}
+use Rattle.std.proofs.Common.{◌≡◌, ◌≢◌, ℕ, zero, suc, ◌<◌, ◌≤◌, Bool, true, false, List, [], ◌∷◌, length, Option, Some, None, refl, sym, ap, ◌∙◌, subst, arith}
 use Rattle.std.specs.Prelude.{nat_lt, slice_get, slice_set}
 use Rattle.std.proofs.lemmas.Bool.{ltb-true}
 use Rattle.sem_primitives.specs.declared.sorts.Sort.TheVariants as sort
@@ -15,7 +15,7 @@ use Rattle.mid_program.specs.declared.mid.Arithmetic.{Arithmetic}
 use Rattle.mid_program.specs.declared.mid.Arithmetic.TheVariants as inline
 use Rattle.mid_program.specs.Mid.{PrimitiveAnswer, NumberOrText, Code, Form, Global, Parameter, Slot, form_of}
 use Rattle.lower_model.specs.Arithmetic.{calculated}
-use Rattle.lower_model.specs.Emission.{Layout, emitted, all_emitted, added, added_or, slot_read, slot_set}
+use Rattle.lower_model.specs.Emission.{Layout, emitted, all_emitted, added, added_or, parameter_read, slot_read, slot_set}
 use Rattle.lower_model.specs.Places.{Bases, handle_local, number_global, number_local}
 use Rattle.lower_model.specs.Quick.{Addition, addition_names, addition_of, source_in}
 use Rattle.lower_model.specs.Small.{text_beside, to_number}
@@ -114,19 +114,21 @@ module _ (m : ProgramForm) (P : Conf → Type 0) (bs : List Bool) (base : Conf) 
       slice_get (slice_set L x w) x ≢ Some (I64 text_beside)
   put_ready L x w e h q = h (sym (set_there L x w (ltb-true x (length L) e)) ∙ q)
 
-  read_flows : {K : List LabelForm} {k : Instructions} (x : Slot) (t : ℕ) (L : List Word) → HasNoText y.ranges b base x → Below b zero base.frame.locals L →
+  read_flows : {K : List LabelForm} {k : Instructions} (x : Slot) (t : ℕ) (L : List Word) → HasNoText y.ranges y.lenders b base x →
+      Below b zero base.frame.locals L →
       ((M : List Word) → Below b t L M → Ready b NumberOrText t M → To K base.globals M k) → To K base.globals L (slot_read y x t k)
   read_flows (Global true i) t L h bl next =
       get_global (λ w e. tee (λ f. no_mark_flows m P bs base _ (λ z. h.1 (e ∙ ap Some z))
       (next (slice_set L (number_local b t) w) (below_set b t (number_local b t) L w (omega arith)) (put_ready L (number_local b t) w f (λ z. h.1 (e ∙ z))))))
-  read_flows (Parameter true i) t L h bl next =
+  read_flows {K = K} {k = k} (Parameter true i) t L h bl next =
       let l = h.0 in
-      get (λ w e. set (λ f. next (slice_set L (number_local b t) w) (below_set b t (number_local b t) L w (omega arith))
-      (put_ready L (number_local b t) w f (λ z. h.1 (sym (bl.it i (omega (arith, l))) ∙ e ∙ z)))))
+      subst (λ (o : Option ℕ). To K base.globals L (parameter_read y o i t k)) (sym h.2)
+      (get (λ w e. set (λ f. next (slice_set L (number_local b t) w) (below_set b t (number_local b t) L w (omega arith))
+      (put_ready L (number_local b t) w f (λ z. h.1 (sym (bl.it i (omega (arith, l))) ∙ e ∙ z))))))
   read_flows (Global false i) t L h bl next = absurd h
   read_flows (Parameter false i) t L h bl next = absurd h
 
-  pub set_flows : {K : List LabelForm} {gs L : List Word} {k : Instructions} (x : Slot) (f : Form) → HasNoText y.ranges b base x → gs ≡ base.globals → Ready b f zero L →
+  pub set_flows : {K : List LabelForm} {gs L : List Word} {k : Instructions} (x : Slot) (f : Form) → HasNoText y.ranges y.lenders b base x → gs ≡ base.globals → Ready b f zero L →
       ((hs M : List Word) → To K hs M k) → To K gs L (slot_set y true x f zero k)
   set_flows (Global true i) (PrimitiveAnswer (answer.Of sort.Number)) h e ready next =
       get_global (λ w q. no_mark_flows m P bs base _ (λ z. h.1 (ap (λ g. slice_get g (number_global y.ranges i)) (sym e) ∙ q ∙ ap Some z))
@@ -170,7 +172,7 @@ module _ (m : ProgramForm) (P : Conf → Type 0) (bs : List Bool) (base : Conf) 
       (below_then b t b1 (below_then b t (below_less b t b2) (below_then b t (below_others b t o3)
       (below_then b t (below_less b t (below_others b (suc t) o4)) b5)))))))))
 
-  pub sum_flows : (e : Code) (t d : ℕ) (L : List Word) {K : List LabelForm} {k : Instructions} → IsSum (HasNoText y.ranges b base) e →
+  pub sum_flows : (e : Code) (t d : ℕ) (L : List Word) {K : List LabelForm} {k : Instructions} → IsSum (HasNoText y.ranges y.lenders b base) e →
       Below b zero base.frame.locals L →
       ((M : List Word) → Below b t L M → Ready b (form_of [] e) t M → To K base.globals M k) → To K base.globals L (emitted y false [] [] e t zero d k)
   unfolding emitted all_emitted

@@ -28,11 +28,11 @@ use Rattle.mid_program.specs.declared.mid.Operation.TheVariants.{Host, Inline, A
 use Rattle.mid_program.specs.MidMeaning.{three_values}
 use Rattle.sem_scripts.specs.Names.{ArrayName, Numbered, Given}
 use Rattle.mid_program.specs.Mid.{Kind, Boxed, Unboxed, ArrayKind, Slot, Global, Parameter, Code, Do, Over, Compare, Call, Ask, AskLine, FileLine, Replace, Number, Text, Unset, Get, Set, Array, IsOpen, Choose, Seq, Let, Bound, Codes, End, At, Fixed, Fresh, Form, PrimitiveAnswer, NumberOrText, OptionalNumber, a_value, form_of, form_at, arguments, parameters_at}
-use Rattle.mid_program.specs.Sorted.{count_of}
+use Rattle.mid_program.specs.Sorted.{count_of, lender_at}
 use Rattle.sem_scripts.specs.Steps.{is_field_number}
 use Rattle.lower_model.specs.Quick.{addition_in}
 use Rattle.lower_model.specs.Arithmetic.{calculated, compared, field_checked, is_value, may_be_text, numbers_compared, texts_beside, values_compared, zeroed_if}
-use Rattle.lower_model.specs.Emission.{Layout, Immediate, FieldOf, TextOf, NumberOf, field_at, immediate_field, immediate_in, immediate_or, immediate_pushed, all_appended, all_boxed, all_converted, all_emitted, all_freed, all_given, all_given_pushed, all_pushed, array_meant, array_pushed, asked, assigned, assigned_by_number, bound_read, constant_field, dropped, emitted, field_in, field_or, handle_stored, keeping_closed, left_over, listed_asked, one_field, one_given, one_pushed, pending_assigned, performed, sequence_closed, slot_read, slot_set, tested, text_kept, text_let_go, text_pushed, value_stored, values_counted}
+use Rattle.lower_model.specs.Emission.{Layout, Immediate, FieldOf, TextOf, NumberOf, field_at, immediate_field, immediate_in, immediate_or, immediate_pushed, all_appended, all_boxed, all_converted, all_emitted, all_freed, all_given, all_given_pushed, all_pushed, array_meant, array_pushed, asked, assigned, assigned_by_number, bound_read, constant_field, dropped, emitted, field_in, field_or, handle_stored, keeping_closed, left_over, lent, listed_asked, one_field, one_given, one_pushed, parameter_read, pending_assigned, performed, sequence_closed, slot_read, slot_set, tested, text_kept, text_let_go, text_pushed, value_stored, values_counted}
 use Rattle.lower_model.specs.Places.{Bases, made_in, memory_of, place_of}
 use Rattle.lower_model.specs.Small.{answer_kept, boxed_perhaps, bound_from, code_number, converted, kept, kept_code, kept_done, kept_number, kept_value, moved_from, released, to_number, to_value, truth, unused}
 use Rattle.agreement.proofs.SizesLemmas.Fits.{Fits, choice, fits_simple, in_loop, long_fits, none, place_within, plain, text_within, word_fits}
@@ -226,11 +226,15 @@ module _ (y : Layout) (names : length y.names ≤ 2 ^ 24) (memory : length (memo
     array_fits (Numbered (suc (suc i))) r = record { has = r.has }
     array_fits (Given i) r = record { has = r.has }
 
+    parameter_fits : (o : Option ℕ) (i t : ℕ) → Fits k → Fits (parameter_read y o i t k)
+    parameter_fits None i t r = record { has = r.has }
+    parameter_fits (Some g) i t r = record { has = r.has }
+
     read_fits : (x : Slot) (t : ℕ) → Fits k → Fits (slot_read y x t k)
     read_fits (Global false i) t r = record { has = r.has }
     read_fits (Global true i) t r = record { has = r.has }
     read_fits (Parameter false i) t r = record { has = r.has }
-    read_fits (Parameter true i) t r = record { has = r.has }
+    read_fits (Parameter true i) t r = parameter_fits (lender_at y.lenders i) i t r
 
     pub text_fits_there : (i : ℕ) → Fits k → Fits (text_pushed y i k)
     text_fits_there i r =
@@ -337,8 +341,14 @@ module _ (y : Layout) (names : length y.names ≤ 2 ^ 24) (memory : length (memo
         plain (I32Const (values_counted to c)) (word_fits (values_counted to c) (omega (arith, l, few)))
         (plain (I32Const (destination_number to)) (destination_fits to) (plain _ refl (kept_fits b true answer.Done t d r)))
 
+  module _ {k : Instructions} where
+    lent_fits : (f : Form) (t : ℕ) → Fits k → Fits (lent y f t k)
+    lent_fits NumberOrText t r = record { has = r.has }
+    lent_fits f t r = r
+
   given_fits : {k : Instructions} (fs : List Form) (ks : List Kind) (es : Codes) (t : ℕ) → Fits k → Fits (all_given y fs ks es t k)
   given_fits fs (Boxed ∷ ks) (At e es) t r = to_value_fits b (form_of fs e) t (given_fits fs ks es (suc t) r)
+  given_fits fs (Unboxed ∷ ks) (At e es) t r = lent_fits (form_of fs e) t (given_fits fs ks es (suc t) r)
   given_fits fs (kind ∷ ks) (At e es) t r = given_fits fs ks es (suc t) r
   given_fits fs (kind ∷ ks) (Fresh es) t r = given_fits fs ks es t r
   given_fits fs ks es t r = r

@@ -1,5 +1,5 @@
 -- Well-sorted mid code whose function has few locals has small constants.
-use Rattle.std.proofs.Common.{◌≡◌, ◌≤◌, ◌<◌, ◌^◌, ℕ, zero, suc, Bool, true, false, List, [], ◌∷◌, length, None, Some, refl, arith}
+use Rattle.std.proofs.Common.{◌≡◌, ◌≤◌, ◌<◌, ◌^◌, ℕ, zero, suc, Bool, true, false, not, List, [], ◌∷◌, length, Option, None, Some, refl, arith}
 use Rattle.std.specs.Prelude.{◌&&◌, is_some, nat_lt, slice_get, unsigned_abs}
 use Rattle.std.proofs.lemmas.Bool.{and_parts, leb-true}
 use Rattle.std.proofs.lemmas.Option.{slice_get_within}
@@ -16,7 +16,7 @@ use Rattle.mid_program.specs.declared.mid.Operation.{Operation}
 use Rattle.mid_program.specs.declared.mid.Operation.TheVariants.{Host, Inline, AsNumber, FieldNumber}
 use Rattle.mid_program.specs.MidMeaning.{three_values}
 use Rattle.mid_program.specs.Mid.{Kind, Boxed, Unboxed, ArrayKind, Code, Do, Over, Compare, Call, Ask, AskLine, FileLine, Replace, Number, Text, Unset, Get, Set, Array, IsOpen, Choose, Seq, Let, Bound, Codes, End, At, Fixed, Fresh, Step, Eval, Block, If, Loop, Each, Break, Continue, Next, Exit, ExitWith, Return, Mark, Steps, NoStep, Then, Form, a_value, arguments, form_of, parameters_at, source_of}
-use Rattle.mid_program.specs.Sorted.{Context, all_sorted, all_values, are_enough, are_missing, count_of, fit_call, fit_row, fits, is_array_place, is_chosen, is_constant, is_done_here, is_dropped, is_given, is_kept, is_slot, is_tested, keeps_well, sorted, step_sorted, steps_sorted, stores_well, takes, test_sorted}
+use Rattle.mid_program.specs.Sorted.{Context, all_sorted, all_values, are_enough, are_missing, count_of, fit_call, fit_row, fits, has_lender, is_array_place, is_chosen, is_constant, is_done_here, is_dropped, is_given, is_kept, is_slot, is_tested, keeps_well, lender_at, sorted, step_sorted, steps_sorted, stores_well, takes, test_sorted}
 use Rattle.lower_model.specs.Places.{room, rooms, step_room, steps_room}
 use Rattle.agreement.proofs.SizesLemmas.Small.{AllSmall, Small, SmallStep, SmallSteps}
 
@@ -150,21 +150,23 @@ values_fixed fs (At e es) h = values_fixed fs es (and_parts (fits (form_of fs e)
 values_fixed fs (Fixed n es) h = absurd cc
 values_fixed fs (Fresh es) h = absurd cc
 
-call_fixed : (fs : List Form) (ks : List Kind) (es : Codes) → fit_call fs ks es ≡ true → FixedSmall es
-call_fixed fs [] End h = tt
-call_fixed fs [] (At e es) h = absurd cc
-call_fixed fs [] (Fixed n es) h = absurd cc
-call_fixed fs [] (Fresh es) h = absurd cc
-call_fixed fs (k ∷ ks) (At e es) h = call_fixed fs ks es (and_parts (is_given (form_of fs e) k) (fit_call fs ks es) h).1
-call_fixed fs (ArrayKind ∷ ks) (Fresh es) h = call_fixed fs ks es h
-call_fixed fs (Boxed ∷ ks) (Fresh es) h = absurd cc
-call_fixed fs (Unboxed ∷ ks) (Fresh es) h = absurd cc
-call_fixed fs (Boxed ∷ ks) (Fixed n es) h = absurd cc
-call_fixed fs (Unboxed ∷ ks) (Fixed n es) h = absurd cc
-call_fixed fs (ArrayKind ∷ ks) (Fixed n es) h = absurd cc
-call_fixed fs (Boxed ∷ ks) End h = absurd cc
-call_fixed fs (Unboxed ∷ ks) End h = absurd cc
-call_fixed fs (ArrayKind ∷ ks) End h = absurd cc
+call_fixed : (lender : ℕ → Option ℕ) (fs : List Form) (ks : List Kind) (es : Codes) → fit_call lender fs ks es ≡ true → FixedSmall es
+call_fixed lender fs [] End h = tt
+call_fixed lender fs [] (At e es) h = absurd cc
+call_fixed lender fs [] (Fixed n es) h = absurd cc
+call_fixed lender fs [] (Fresh es) h = absurd cc
+call_fixed lender fs (k ∷ ks) (At e es) h =
+    let next : ℕ → Option ℕ = λ i. lender (suc i) in
+    call_fixed next fs ks es (and_parts (is_given (lender zero) (source_of e) (form_of fs e) k) (fit_call next fs ks es) h).1
+call_fixed lender fs (ArrayKind ∷ ks) (Fresh es) h = call_fixed (λ i. lender (suc i)) fs ks es h
+call_fixed lender fs (Boxed ∷ ks) (Fresh es) h = absurd cc
+call_fixed lender fs (Unboxed ∷ ks) (Fresh es) h = absurd cc
+call_fixed lender fs (Boxed ∷ ks) (Fixed n es) h = absurd cc
+call_fixed lender fs (Unboxed ∷ ks) (Fixed n es) h = absurd cc
+call_fixed lender fs (ArrayKind ∷ ks) (Fixed n es) h = absurd cc
+call_fixed lender fs (Boxed ∷ ks) End h = absurd cc
+call_fixed lender fs (Unboxed ∷ ks) End h = absurd cc
+call_fixed lender fs (ArrayKind ∷ ks) End h = absurd cc
 
 -- ---- room
 
@@ -201,11 +203,14 @@ module _ (c : Context) where
         let s3 = and_parts (sorted c fs a) (sorted c fs b) s2.1 in
         (code_small fs a s3.0 (omega (arith, h)), code_small fs b s3.1 (omega (arith, h)))
     code_small fs (Call f es) s h =
-        let s1 = and_parts (nat_lt f (length c.calls)) (fit_call fs (parameters_at c.calls f) es && all_sorted c fs es) s in
-        let s2 = and_parts (fit_call fs (parameters_at c.calls f) es) (all_sorted c fs es) s1.1 in
-        codes_small fs es s2.1 (call_fixed fs (parameters_at c.calls f) es s2.0) (omega (arith, h))
+        let lender = lender_at c.lenders in
+        let s1 = and_parts (nat_lt f (length c.calls)) (fit_call lender fs (parameters_at c.calls f) es && all_sorted c fs es) s in
+        let s2 = and_parts (fit_call lender fs (parameters_at c.calls f) es) (all_sorted c fs es) s1.1 in
+        codes_small fs es s2.1 (call_fixed lender fs (parameters_at c.calls f) es s2.0) (omega (arith, h))
     code_small fs Ask s h = tt
-    code_small fs (AskLine e) s h = code_small (a_value ∷ fs) e (and_parts (stores_well fs e) (sorted c (a_value ∷ fs) e) s).1 (omega (arith, h))
+    code_small fs (AskLine e) s h =
+        let s1 = and_parts (not (has_lender c.lenders)) (stores_well fs e && sorted c (a_value ∷ fs) e) s in
+        code_small (a_value ∷ fs) e (and_parts (stores_well fs e) (sorted c (a_value ∷ fs) e) s1.1).1 (omega (arith, h))
     code_small fs (FileLine f e) s h =
         let s1 = and_parts (fits (form_of fs f) sort.Value) (sorted c fs f && (stores_well fs e && sorted c (a_value ∷ fs) e)) s in
         let s2 = and_parts (sorted c fs f) (stores_well fs e && sorted c (a_value ∷ fs) e) s1.1 in

@@ -16,12 +16,13 @@ use Rattle.wasm_types.specs.declared.instr.Simple.TheVariants.{Br, I32Const, I64
 use Rattle.mid_program.specs.declared.mid.Arithmetic.{Arithmetic}
 use Rattle.mid_program.specs.declared.mid.Operation.TheVariants.{Inline}
 use Rattle.mid_program.specs.Mid.{Kind, Boxed, Unboxed, ArrayKind, Parameter, Slot, Code, Get, Do, Compare, Number, Set, Let, Bound, Codes, End, At, Choose, Step, Eval, Block as Steps_, If as Either, Loop, Each, Break, Continue, Next, Exit, ExitWith, Return, Mark, Steps, NoStep, Then as AndThen, Program, Form, PrimitiveAnswer, NumberOrText, OptionalNumber, a_value, form_of}
+use Rattle.mid_program.specs.Sorted.{lender_at}
 use Rattle.sem_scripts.specs.Names.{ArrayName}
 use Rattle.lower_model.specs.Appends.{Append, append_in}
 use Rattle.lower_model.specs.Emission.{Layout, field_at}
 use Rattle.lower_model.specs.Places.{Bases, memory_of}
 use Rattle.lower_model.specs.Quick.{Within, test_within, both_within, compared_within, constant_in, first_ones, name_in, Holder, OfName, OfParameter, holder_of, set_after, set_alone, Source, Held, Constant, source_in, Sum, sum_names, sum_op, sum_in, Update, update_in, Tally, tally_in, Remainder, remainder_in, remainder_names, most_multiplied, multiplied, Counted, counted_in, sum_of, two_sum, set_sum, kept_sum, update_sum, old_source, stored_name, new_sum, let_sum, is_near, Pair, pair_names, pair_in, pair_of, step_jumps, is_nothing}
-use Rattle.lower_model.specs.Statements.{answer_given, returned, name_put, summed, name_numbered, source_numbered, source_taken, sum_kept, sum_taken, summed_anyway, both_asked, element_numbered, element_given, text_appended, chain_appended, appended_dropped, remainder_taken, remainder_dropped, barely_dropped, plainly_dropped, quickly_dropped, left_unless_counted, pair_left, left_unless_pair, left_unless, all_emptied, arrays_emptied, arrays_swept, before_parts, declared, goes_on, iterator_left, iterators_emptied, iterators_swept, key_stored, left_by, main_body, names_declared, names_made, parameters_dropped, part_done, record_done, records_read, routine_body, routines_declared, step_emitted, steps_emitted, swept, temporaries_emptied, temporaries_swept, has_functions, left_swept}
+use Rattle.lower_model.specs.Statements.{answer_given, parameter_returned, returned, name_put, summed, parameter_found, name_numbered, source_numbered, source_taken, sum_kept, sum_taken, summed_anyway, both_asked, element_numbered, element_given, text_appended, chain_appended, appended_dropped, remainder_taken, remainder_dropped, barely_dropped, plainly_dropped, quickly_dropped, left_unless_counted, pair_left, left_unless_pair, left_unless, all_emptied, arrays_emptied, arrays_swept, before_parts, declared, goes_on, iterator_left, iterators_emptied, iterators_swept, key_stored, left_by, main_body, names_declared, names_made, parameters_dropped, part_done, record_done, records_read, routine_body, routines_declared, step_emitted, steps_emitted, swept, temporaries_emptied, temporaries_swept, has_functions, left_swept}
 use Rattle.std.proofs.lemmas.Bool.{leb-true}
 use Rattle.lower_model.specs.Small.{emit}
 use Rattle.lower_model.proofs.Chains.{IsChain, one_text, more_texts, append_is, last_appended}
@@ -142,9 +143,13 @@ module _ (y : Layout) (names : length y.names ≤ 2 ^ 24) (memory : length (memo
 
   -- sums in all cases
 
+  found_fits : {k : Instructions} (o : Option ℕ) (t d : ℕ) → Fits k → Fits (parameter_found y o t d k)
+  found_fits None t d r = record { has = r.has }
+  found_fits (Some g) t d r = record { has = r.has }
+
   name_fits : {k : Instructions} (i : Holder) (t d : ℕ) → Fits k → Fits (name_numbered y i t d k)
   name_fits (OfName i) t d r = record { has = r.has }
-  name_fits (OfParameter i) t d r = record { has = r.has }
+  name_fits (OfParameter i) t d r = plain _ refl (plain _ refl (plain _ refl (plain _ refl (choice (found_fits (lender_at y.lenders i) t d none) none r))))
 
   numbered_fits : {k : Instructions} (x : Source) (t d : ℕ) → Fits k → Fits (source_numbered y x t d k)
   numbered_fits (Held i) t d r = name_fits i t d r
@@ -279,12 +284,16 @@ module _ (y : Layout) (names : length y.names ≤ 2 ^ 24) (memory : length (memo
   answer_fits OptionalNumber d r = record { has = r.has }
   answer_fits f d r = record { has = r.has }
 
+  parameter_fits : {k : Instructions} (o : Option ℕ) (i d : ℕ) → Fits k → Fits (parameter_returned y o i d k)
+  parameter_fits None i d r = plain _ refl (plain _ refl (plain _ refl r))
+  parameter_fits (Some g) i d r = emitted_fits y names memory false [] [] (Get (Parameter true i)) zero zero d tt (answer_fits NumberOrText d r)
+
   returned_fits : {k : Instructions} (e : Code) (d : ℕ) → Small e → Fits k → Fits (returned y e d k)
   returned_fits (Choose sort.Value e a c) d s r =
       whichever (is_some (pair_in e))
       (in_block (pair_fits (pair_in e) e (suc d) zero refl s.0 (returned_fits a (suc d) s.1.0 none)) (returned_fits c d s.1.1 r))
       (tested_fits y names memory [] [] e zero zero d s.0 (choice (returned_fits a (suc d) s.1.0 none) (returned_fits c (suc d) s.1.1 none) r))
-  returned_fits (Get (Parameter true i)) d s r = plain _ refl (plain _ refl (plain _ refl r))
+  returned_fits (Get (Parameter true i)) d s r = parameter_fits (lender_at y.lenders i) i d r
   returned_fits e d s r = emitted_fits y names memory false [] [] e zero zero d s (answer_fits (form_of [] e) d r)
 
   mutual

@@ -11,7 +11,7 @@ use Rattle.wasm_types.specs.declared.types.Limits.{Limits}
 use Rattle.wasm_types.specs.Syntax.{FuncForm, GlobalForm, ImportForm}
 use Rattle.wasm_types.specs.Typing.{ModuleOk}
 use Rattle.mid_program.specs.Mid.{Kind, Program, Routine}
-use Rattle.mid_program.specs.Sorted.{IsSorted, all_differ, announced_names, context_of, is_sorted, kinds_of, parts_sorted, routines_sorted, steps_sorted}
+use Rattle.mid_program.specs.Sorted.{IsSorted, all_differ, announced_names, are_lenders, context_of, is_sorted, kinds_of, parts_sorted, routines_sorted, steps_sorted}
 use Rattle.lower_model.specs.Functions.{layout_of, main_bases, main_callee, routine_bases, routine_callee, texts_of}
 use Rattle.host_imports.specs.Imports.{module_name}
 use Rattle.host_imports.specs.Names.{import_name}
@@ -153,11 +153,12 @@ from_T false t = absurd t
 
 module _ (p : Program) (s : is_sorted p ≡ true) (size : module_size (module_of p) ≤ 2 ^ 24)
     (long : AllByRecursion (λ (f : FuncForm). length f.locals ≤ 50000) (module_of p).funcs) where
-  s1 : (all_differ (announced_names p) ≡ true) × (routines_sorted p p.routines && parts_sorted p (context_of p []) ≡ true)
-  s1 = and_parts (all_differ (announced_names p)) (routines_sorted p p.routines && parts_sorted p (context_of p [])) s
-
   s2 : (routines_sorted p p.routines ≡ true) × (parts_sorted p (context_of p []) ≡ true)
-  s2 = and_parts (routines_sorted p p.routines) (parts_sorted p (context_of p [])) s1.1
+  s2 =
+      let code = routines_sorted p p.routines && parts_sorted p (context_of p []) in
+      let lend = are_lenders (kinds_of p.globals) p.lenders in
+      let s1 = and_parts lend code (and_parts (all_differ (announced_names p)) (lend && code) s).1 in
+      and_parts (routines_sorted p p.routines) (parts_sorted p (context_of p [])) s1.1
 
   memory : length (memory_of (texts_of p)) ≤ 2 ^ 24
   memory =

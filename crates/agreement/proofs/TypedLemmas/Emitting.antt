@@ -1,5 +1,5 @@
 -- The code of mid code is typed before whatever follows it, on whatever stack.
-use Rattle.std.proofs.Common.{◌≡◌, ℕ, zero, suc, ◌+◌, ◌<◌, ◌≤◌, Bool, true, false, List, [], ◌∷◌, length, Option, Some, None, ℤ, arith}
+use Rattle.std.proofs.Common.{◌≡◌, ℕ, zero, suc, ◌+◌, ◌<◌, ◌≤◌, Bool, true, false, not, List, [], ◌∷◌, length, Option, Some, None, ℤ, arith}
 use Rattle.std.specs.Prelude.{◌&&◌, get_or, nat_lt}
 use Rattle.std.proofs.lemmas.Bool.{and_parts, ltb-true}
 use Rattle.awk_values.specs.declared.comparison.CompareOp.{CompareOp}
@@ -13,7 +13,7 @@ use Rattle.mid_program.specs.declared.mid.Operation.{Operation}
 use Rattle.mid_program.specs.declared.mid.Operation.TheVariants.{Host, Inline, AsNumber, FieldNumber}
 use Rattle.mid_program.specs.MidMeaning.{three_values}
 use Rattle.mid_program.specs.Mid.{Kind, Program, Code, Do, Over, Compare, Call, Ask, AskLine, FileLine, Replace, Number, Text, Unset, Get, Set, Array, IsOpen, Choose, Seq, Let, Bound, Codes, End, At, Fixed, Fresh, Form, a_value, form_of, form_at, arguments, parameters_at, source_of}
-use Rattle.mid_program.specs.Sorted.{context_of, calls_of, fits, fit_row, fit_call, all_values, are_enough, count_of, is_slot, takes, is_chosen, is_tested, is_dropped, is_kept, is_done_here, keeps_well, stores_well, are_missing, sorted, all_sorted}
+use Rattle.mid_program.specs.Sorted.{context_of, calls_of, fits, fit_row, fit_call, has_lender, lender_at, all_values, are_enough, count_of, is_slot, takes, is_chosen, is_tested, is_dropped, is_kept, is_done_here, keeps_well, stores_well, are_missing, sorted, all_sorted}
 use Rattle.lower_model.specs.Arithmetic.{is_value}
 use Rattle.lower_model.specs.Emission.{Immediate, FieldOf, TextOf, NumberOf, immediate_in, immediate_pushed, immediate_or, emitted, all_emitted, performed, field_in, field_or, left_over, sequence_closed, keeping_closed, bound_read, text_let_go}
 use Rattle.lower_model.specs.Functions.{layout_of}
@@ -129,21 +129,23 @@ module _ {p : Program} {ks : List Kind} {b : Bases} {C : Context} (at : Stands p
         (compared_ok at x c (form_of fs e) (form_of fs f) (omega (arith, h, hf)) r)))
     code_ok {ps = ps} v fs ts (Call f es) t w d q s h g x r =
         let js = parameters_at (calls_of p) f in
-        let s1 = and_parts (nat_lt f (length (calls_of p))) (fit_call fs js es && all_sorted (context_of p ks) fs es) s in
-        let s2 = and_parts (fit_call fs js es) (all_sorted (context_of p ks) fs es) s1.1 in
+        let lender = lender_at p.lenders in
+        let s1 = and_parts (nat_lt f (length (calls_of p))) (fit_call lender fs js es && all_sorted (context_of p ks) fs es) s in
+        let s2 = and_parts (fit_call lender fs js es) (all_sorted (context_of p ks) fs es) s1.1 in
         let hs : t + rooms es ≤ b.temporaries = omega (arith, h) in
         let m = made_among es in
         let gs : w + made_in es ≤ b.arrays = omega (arith, g, m) in
         codes_ok fs ts es t w d q s2.1 hs g x
         (all_given_ok at fs js es t hs
-        (all_given_pushed_ok at fs js es t w ps s2.0 s2.1 hs gs
+        (all_given_pushed_ok at lender fs js es t w ps s2.0 s2.1 hs gs
         (called ps (at.routine f (ltb-true f (length (calls_of p)) s1.0))
         (answer_kept_ok at (omega (arith, h)) x (all_freed_ok at w (made_in es) gs r)))))
     code_ok v fs ts Ask t w d q s h g x r =
         asked_ok at row.Getline (at.imported (OfPrimitive row.Getline)) (omega (arith, h)) x
         (code_number_ok at (omega (arith, h)) r)
     code_ok v fs ts (AskLine e) t w d q s h g x r =
-        let s1 = and_parts (stores_well fs e) (sorted (context_of p ks) (a_value ∷ fs) e) s in
+        let s0 = and_parts (not (has_lender p.lenders)) (stores_well fs e && sorted (context_of p ks) (a_value ∷ fs) e) s in
+        let s1 = and_parts (stores_well fs e) (sorted (context_of p ks) (a_value ∷ fs) e) s0.1 in
         let he = room_there e in
         asked_ok at row.GetlineVar (at.imported (OfPrimitive row.GetlineVar)) (omega (arith, h)) x
         (number_is_ok at (at.number t (omega (arith, h))) (branched

@@ -1,5 +1,5 @@
 -- Operands: converted, and pushed for an import or a function.
-use Rattle.std.proofs.Common.{◌≡◌, ℕ, zero, suc, ◌+◌, ◌<◌, ◌≤◌, true, List, [], ◌∷◌, ◌++◌, ap, ◌∙◌, subst, arith, append_assoc}
+use Rattle.std.proofs.Common.{◌≡◌, ℕ, zero, suc, ◌+◌, ◌<◌, ◌≤◌, true, List, [], ◌∷◌, ◌++◌, Option, ap, ◌∙◌, subst, arith, append_assoc}
 use Rattle.std.specs.Prelude.{reverse, ◌&&◌, map}
 use Rattle.std.proofs.lemmas.Bool.{and_parts, lt-ltb}
 use Rattle.std.proofs.lemmas.List.{reverse-append}
@@ -11,21 +11,21 @@ use Rattle.sem_primitives.specs.declared.sorts.Answer.TheVariants as answer
 use Rattle.sem_primitives.specs.declared.table.Listed.{Listed}
 use Rattle.sem_primitives.specs.declared.table.Listed.TheVariants as listed
 use Rattle.wasm_types.specs.Syntax.{Instructions}
-use Rattle.wasm_types.specs.Typing.{Context, CodeOk}
+use Rattle.wasm_types.specs.Typing.{Context, CodeOk, done}
 use Rattle.wasm_types.specs.declared.types.ValType.TheVariants.{I32}
 use Rattle.mid_program.specs.declared.mid.Operation.TheVariants.{Inline}
-use Rattle.mid_program.specs.Mid.{Kind, Boxed, Unboxed, ArrayKind, Program, Code, Do, Over, Compare, Call, Ask, AskLine, FileLine, Replace, Number, Text, Unset, Get, Set, Array, IsOpen, Choose, Seq, Let, Bound, Codes, End, At, Fixed, Fresh, Form, PrimitiveAnswer, NumberOrText, form_of}
+use Rattle.mid_program.specs.Mid.{Kind, Boxed, Unboxed, ArrayKind, Program, Code, Do, Over, Compare, Call, Ask, AskLine, FileLine, Replace, Number, Text, Unset, Get, Set, Array, IsOpen, Choose, Seq, Let, Bound, Codes, End, At, Fixed, Fresh, Form, PrimitiveAnswer, NumberOrText, form_of, source_of}
 use Rattle.mid_program.specs.Sorted.{context_of, is_array_place, fits, fit_row, is_given, fit_call, is_constant, is_kept, keeps_well, are_missing, sorted, all_sorted, arrays_among as count_arrays}
-use Rattle.lower_model.specs.Emission.{array_meant, all_converted, one_pushed, all_pushed, all_boxed, all_appended, listed_asked, all_given, one_given, all_given_pushed, all_freed}
+use Rattle.lower_model.specs.Emission.{array_meant, all_converted, one_pushed, all_pushed, all_boxed, all_appended, listed_asked, lent, all_given, one_given, all_given_pushed, all_freed}
 use Rattle.lower_model.specs.Functions.{layout_of}
 use Rattle.host_imports.specs.Imports.{params_of, words_of}
 use Rattle.lower_model.specs.Places.{Bases, room, rooms, kind_type, arrays_among, made_in}
 use Rattle.host_imports.specs.declared.import.VariadicImport.TheVariants as listing
-use Rattle.host_imports.specs.declared.import.Import.TheVariants.{Variadic as OverLast, Arg, FreeArray}
+use Rattle.host_imports.specs.declared.import.Import.TheVariants.{Variadic as OverLast, Arg, Drop, FreeArray}
 use Rattle.lower_model.proofs.Simulation.{operator_room}
-use Rattle.agreement.proofs.TypedLemmas.Singles.{Stack, Labels, Exit, called, get, tee, word}
+use Rattle.agreement.proofs.TypedLemmas.Singles.{Stack, Labels, Exit, called, get, put, tee, long, word, branched}
 use Rattle.agreement.proofs.TypedLemmas.Standing.{Stands}
-use Rattle.agreement.proofs.TypedLemmas.Pieces.{moved_out_ok, kept_value_ok, kept_done_ok, to_value_ok, converted_ok}
+use Rattle.agreement.proofs.TypedLemmas.Pieces.{moved_out_ok, number_is_ok, kept_value_ok, kept_done_ok, to_value_ok, converted_ok}
 use Rattle.agreement.proofs.TypedLemmas.Slots.{array_pushed_ok}
 
 -- all code needs a temporary
@@ -167,31 +167,42 @@ module _ {p : Program} {ks : List Kind} {b : Bases} {C : Context} (at : Stands p
 
     -- What a call is given.
 
+    lent_ok : {ps : Stack} (f : Form) {t : ℕ} → t < b.temporaries → CodeOk C L k ps rs → CodeOk C L (lent (layout_of p b) f t k) ps rs
+    lent_ok NumberOrText {t = t} lt r =
+        number_is_ok at (at.number t lt) (branched
+        (moved_out_ok at (at.handle t lt) (called [] (at.imported Drop) (long (put (at.number t lt) done)))) done r)
+    lent_ok f lt r = r
+
+  module _ {L : Labels} {k : Instructions} {rs : Stack} where
     pub all_given_ok : {ps : Stack} (fs : List Form) (kinds : List Kind) (es : Codes) (t : ℕ) → t + rooms es ≤ b.temporaries → CodeOk C L k ps rs →
         CodeOk C L (all_given (layout_of p b) fs kinds es t k) ps rs
     all_given_ok fs (Boxed ∷ kinds) (At e es) t h r =
         to_value_ok at (form_of fs e) (first_room e es t b.temporaries h) (all_given_ok fs kinds es (suc t) (rest_room e es t b.temporaries h) r)
+    all_given_ok fs (Unboxed ∷ kinds) (At e es) t h r =
+        lent_ok (form_of fs e) (first_room e es t b.temporaries h) (all_given_ok fs kinds es (suc t) (rest_room e es t b.temporaries h) r)
     all_given_ok fs (kind ∷ kinds) (At e es) t h r = all_given_ok fs kinds es (suc t) (rest_room e es t b.temporaries h) r
     all_given_ok fs (kind ∷ kinds) (Fresh es) t h r = all_given_ok fs kinds es t h r
     all_given_ok fs kinds es t h r = r
 
-    pub all_given_pushed_ok : (fs : List Form) (kinds : List Kind) (es : Codes) (t w : ℕ) (ps : Stack) → fit_call fs kinds es ≡ true →
-        all_sorted (context_of p ks) fs es ≡ true →
+    pub all_given_pushed_ok : (lender : ℕ → Option ℕ) (fs : List Form) (kinds : List Kind) (es : Codes) (t w : ℕ) (ps : Stack) →
+        fit_call lender fs kinds es ≡ true → all_sorted (context_of p ks) fs es ≡ true →
         t + rooms es ≤ b.temporaries → w + made_in es ≤ b.arrays → CodeOk C L k (reverse (map kind_type kinds) ++ ps) rs →
         CodeOk C L (all_given_pushed (layout_of p b) kinds es t w k) ps rs
-    all_given_pushed_ok fs [] End t w ps f s h g r = r
-    all_given_pushed_ok fs (kind ∷ kinds) (At e es) t w ps f s h g r =
+    all_given_pushed_ok lender fs [] End t w ps f s h g r = r
+    all_given_pushed_ok lender fs (kind ∷ kinds) (At e es) t w ps f s h g r =
         let q = one_sorted p ks fs e es s in
+        let next : ℕ → Option ℕ = λ i. lender (suc i) in
         one_given_ok kind fs e t ps q.0 (first_room e es t b.temporaries h)
-        (all_given_pushed_ok fs kinds es (suc t) w (kind_type kind ∷ ps) (and_parts (is_given (form_of fs e) kind) (fit_call fs kinds es) f).1 q.1
+        (all_given_pushed_ok next fs kinds es (suc t) w (kind_type kind ∷ ps)
+        (and_parts (is_given (lender zero) (source_of e) (form_of fs e) kind) (fit_call next fs kinds es) f).1 q.1
         (rest_room e es t b.temporaries h) g
         (subst (λ l. CodeOk C L k l rs) (pushed_on (kind_type kind ∷ []) (map kind_type kinds) ps) r))
-    all_given_pushed_ok fs (ArrayKind ∷ kinds) (Fresh es) t w ps f s h g r =
+    all_given_pushed_ok lender fs (ArrayKind ∷ kinds) (Fresh es) t w ps f s h g r =
         let lt : w < b.arrays = omega (arith, g) in
         get (at.array w lt) (tee (at.array w lt)
-        (all_given_pushed_ok fs kinds es t (suc w) (I32 ∷ ps) f (fresh_sorted p ks fs es s) h (omega (arith, g))
+        (all_given_pushed_ok (λ i. lender (suc i)) fs kinds es t (suc w) (I32 ∷ ps) f (fresh_sorted p ks fs es s) h (omega (arith, g))
         (subst (λ l. CodeOk C L k l rs) (pushed_on (I32 ∷ []) (map kind_type kinds) ps) r)))
-    all_given_pushed_ok fs kinds es t w ps f s h g r = cc
+    all_given_pushed_ok lender fs kinds es t w ps f s h g r = cc
 
     pub all_freed_ok : {ps : Stack} (w m : ℕ) → w + m ≤ b.arrays → CodeOk C L k ps rs → CodeOk C L (all_freed (layout_of p b) w m k) ps rs
     all_freed_ok w zero h r = r

@@ -10,7 +10,7 @@ use Rattle.wasm_types.specs.declared.types.ValType.{ValType}
 use Rattle.wasm_types.specs.declared.types.ValType.TheVariants.{I32, I64}
 use Rattle.wasm_types.specs.declared.types.GlobalType.{GlobalType}
 use Rattle.mid_program.specs.Mid.{Kind, Boxed, Unboxed, ArrayKind, Routine, Program, parameters_at}
-use Rattle.mid_program.specs.Sorted.{kinds_of, calls_of, has_kind}
+use Rattle.mid_program.specs.Sorted.{kinds_of, calls_of, has_kind, are_lenders}
 use Rattle.lower_model.specs.Emission.{function_number}
 use Rattle.lower_model.specs.Functions.{routine_callee, main_callee}
 use Rattle.host_imports.specs.Imports.{imports, import_type}
@@ -22,7 +22,8 @@ use Rattle.lower_model.specs.Small.{minus_one, least}
 use Rattle.host_imports.specs.declared.import.Import.{Import}
 use Rattle.host_imports.specs.declared.import.Import.TheVariants.{OfPrimitive, Variadic}
 use Rattle.host_imports.specs.declared.import.VariadicImport.TheVariants.{Sprintf}
-use Rattle.agreement.proofs.TypedLemmas.Standing.{Stands, routine_type}
+use Rattle.mid_program.proofs.Lenders.{lender_unboxed}
+use Rattle.agreement.proofs.TypedLemmas.Standing.{Stands, kind_below, routine_type}
 
 -- Lists that are put together.
 
@@ -168,8 +169,9 @@ module _ (p : Program) where
     table = false;
   }
 
-  pub stands : (a : ValType) (ks : List Kind) (b : Bases) → b.parameters ≡ length ks → Stands p ks b (whole_context a ks b)
-  stands a ks b n = record {
+  pub stands : (a : ValType) (ks : List Kind) (b : Bases) → b.parameters ≡ length ks → are_lenders (kinds_of p.globals) p.lenders ≡ true →
+      Stands p ks b (whole_context a ks b)
+  stands a ks b n lend = record {
     handle = λ t lt. temporary_there ks b n (t + t) (handle_local b t) I32 refl (handle_there b.temporaries t lt);
     number = λ t lt. temporary_there ks b n (suc (t + t)) (number_local b t) I64 (omega arith) (number_there b.temporaries t lt);
     iterator = λ u lt.
@@ -178,6 +180,7 @@ module _ (p : Program) where
     array = λ w lt. array_there ks b n w (array_local b w) refl lt;
     answer = own_there ks b n 0 (answer_local b) I64 (omega arith) refl;
     parameter = λ i k h. there_before (map kind_type ks) (local_types b) i (kind_type k) (parameter_there ks i k h);
+    lender = λ i g e. kind_below (kinds_of p.globals) g Unboxed (lender_unboxed (kinds_of p.globals) p.lenders i g lend e);
     way = refl;
     status = refl;
     text = refl;

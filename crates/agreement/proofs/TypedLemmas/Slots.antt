@@ -1,5 +1,5 @@
 -- Names: arrays onto the stack, slots that are read and set, and assignments of the command line.
-use Rattle.std.proofs.Common.{◌≡◌, ℕ, zero, suc, ◌+◌, ◌<◌, ◌≤◌, Bool, true, false, List, [], ◌∷◌, length, Some, arith}
+use Rattle.std.proofs.Common.{◌≡◌, ℕ, zero, suc, ◌+◌, ◌<◌, ◌≤◌, Bool, true, false, List, [], ◌∷◌, length, Option, Some, None, refl, arith}
 use Rattle.std.specs.Prelude.{slice_get, nat_lt}
 use Rattle.std.proofs.lemmas.Bool.{ltb-true}
 use Rattle.sem_primitives.specs.declared.sorts.Sort.TheVariants as sort
@@ -12,8 +12,8 @@ use Rattle.wasm_types.specs.declared.types.ValType.TheVariants.{I32}
 use Rattle.wasm_types.specs.declared.instr.Simple.{Simple}
 use Rattle.mid_program.specs.Mid.{Kind, Boxed, Unboxed, ArrayKind, Slot, Global, Parameter, Program, Form, PrimitiveAnswer, NumberOrText, OptionalNumber}
 use Rattle.sem_scripts.specs.Names.{ArrayName, Numbered, Given}
-use Rattle.mid_program.specs.Sorted.{context_of, is_array_place, is_slot, kinds_of, arrays_among}
-use Rattle.lower_model.specs.Emission.{array_pushed, slot_read, handle_stored, value_stored, text_dropped, text_stored, slot_set, assigned, assigned_by_number, pending_assigned, asked}
+use Rattle.mid_program.specs.Sorted.{context_of, has_kind, is_array_place, is_slot, kinds_of, arrays_among, lender_at}
+use Rattle.lower_model.specs.Emission.{array_pushed, unboxed_read, parameter_read, slot_read, handle_stored, value_stored, text_dropped, text_stored, slot_set, assigned, assigned_by_number, pending_assigned, asked}
 use Rattle.lower_model.specs.Functions.{layout_of}
 use Rattle.host_imports.specs.Names.{primitive_number}
 use Rattle.lower_model.specs.Places.{Bases, handle_global, array_name}
@@ -38,19 +38,30 @@ module _ {p : Program} {ks : List Kind} {b : Bases} {C : Context} (at : Stands p
     array_pushed_ok (Numbered (suc (suc i))) h r = read (array_there i h) r
     array_pushed_ok (Given i) h r = get (at.parameter i ArrayKind h) r
 
+    unboxed_read_ok : (i : ℕ) {t : ℕ} → i < length (kinds_of p.globals) → t < b.temporaries → CodeOk C L k ps rs →
+        CodeOk C L (unboxed_read (layout_of p b) i t k) ps rs
+    unboxed_read_ok i {t = t} l lt r =
+        let g = at.name_handle i l in
+        read (at.name_number i l) (tee (at.number t lt) (long (compare (branched (copied_ok at (reads_global g) (writes_global g) (at.handle t lt) done) done r))))
+
+  module _ {L : Labels} {k : Instructions} {ps rs : Stack} where
+    -- what lends is read where a parameter has nothing
+    parameter_read_ok : (o : Option ℕ) (i : ℕ) {t : ℕ} → lender_at p.lenders i ≡ o → has_kind ks i Unboxed ≡ true → t < b.temporaries → CodeOk C L k ps rs →
+        CodeOk C L (parameter_read (layout_of p b) o i t k) ps rs
+    parameter_read_ok None i {t = t} e h lt r = get (at.parameter i Unboxed h) (put (at.number t lt) r)
+    parameter_read_ok (Some g) i {t = t} e h lt r =
+        get (at.parameter i Unboxed h) (tee (at.number t lt) (long (compare (branched (unboxed_read_ok g (at.lender i g e) lt done) done r))))
+
     pub slot_read_ok : (x : Slot) {t : ℕ} → is_slot (context_of p ks) x ≡ true → t < b.temporaries → CodeOk C L k ps rs →
         CodeOk C L (slot_read (layout_of p b) x t k) ps rs
     slot_read_ok (Global false i) {t = t} h lt r =
         let g = at.name_handle i (kind_below (kinds_of p.globals) i Boxed h) in
         copied_ok at (reads_global g) (writes_global g) (at.handle t lt) r
-    slot_read_ok (Global true i) {t = t} h lt r =
-        let l = kind_below (kinds_of p.globals) i Unboxed h in
-        let g = at.name_handle i l in
-        read (at.name_number i l) (tee (at.number t lt) (long (compare (branched (copied_ok at (reads_global g) (writes_global g) (at.handle t lt) done) done r))))
+    slot_read_ok (Global true i) h lt r = unboxed_read_ok i (kind_below (kinds_of p.globals) i Unboxed h) lt r
     slot_read_ok (Parameter false i) {t = t} h lt r =
         let g = at.parameter i Boxed h in
         copied_ok at (reads_local g) (writes_local g) (at.handle t lt) r
-    slot_read_ok (Parameter true i) {t = t} h lt r = get (at.parameter i Unboxed h) (put (at.number t lt) r)
+    slot_read_ok (Parameter true i) h lt r = parameter_read_ok (lender_at p.lenders i) i refl h lt r
 
     handle_stored_ok : (o : Bool) {t : ℕ} {set_it : Simple} → t < b.temporaries → Writes C set_it I32 → CodeOk C L k ps rs →
         CodeOk C L (handle_stored (layout_of p b) o t set_it k) ps rs

@@ -5,7 +5,7 @@ use Rattle.wasm_types.specs.Syntax.{Signature}
 use Rattle.wasm_types.specs.Typing.{Context}
 use Rattle.wasm_types.specs.declared.types.ValType.TheVariants.{I32, I64}
 use Rattle.mid_program.specs.Mid.{Kind, Program, parameters_at}
-use Rattle.mid_program.specs.Sorted.{calls_of, kinds_of, has_kind}
+use Rattle.mid_program.specs.Sorted.{calls_of, kinds_of, has_kind, lender_at}
 use Rattle.lower_model.specs.Emission.{function_number}
 use Rattle.host_imports.specs.Imports.{import_type}
 use Rattle.host_imports.specs.Names.{import_number}
@@ -25,6 +25,8 @@ pub record Stands (p : Program) (ks : List Kind) (b : Bases) (C : Context) : Typ
   pub array : (w : ℕ) → w < b.arrays → slice_get C.locals (array_local b w) ≡ Some I32
   pub answer : slice_get C.locals (answer_local b) ≡ Some I64
   pub parameter : (i : ℕ) (k : Kind) → has_kind ks i k ≡ true → slice_get C.locals i ≡ Some (kind_type k)
+  -- what lends at a place is a global
+  pub lender : (i g : ℕ) → lender_at p.lenders i ≡ Some g → g < length (kinds_of p.globals)
   pub way : slice_get C.globals way_global ≡ Some (variable I32)
   pub status : slice_get C.globals status_global ≡ Some (variable I64)
   pub text : slice_get C.globals text_global ≡ Some (variable I32)

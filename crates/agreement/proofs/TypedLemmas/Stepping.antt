@@ -6,28 +6,29 @@ use Rattle.awk_values.specs.declared.fault.Fault.TheVariants.{Range}
 use Rattle.sem_primitives.specs.declared.sorts.Answer.TheVariants as answer
 use Rattle.sem_primitives.specs.declared.sorts.Sort.TheVariants as sort
 use Rattle.sem_primitives.specs.declared.table.Primitive.TheVariants as row
-use Rattle.wasm_types.specs.Syntax.{Instructions}
+use Rattle.wasm_types.specs.Syntax.{Instructions, Done}
 use Rattle.wasm_types.specs.Typing.{Context, CodeOk, done}
 use Rattle.wasm_types.specs.declared.types.ValType.{ValType}
 use Rattle.wasm_types.specs.declared.types.ValType.TheVariants.{I32, I64}
 use Rattle.wasm_types.specs.declared.instr.IBinOp.{IBinOp}
+use Rattle.wasm_types.specs.declared.instr.Simple.TheVariants.{GlobalGet}
 use Rattle.mid_program.specs.Mid.{Kind, Boxed, Unboxed, Program, Slot, Code, Get, Parameter, Step, Eval, Block, If, Loop, Each, Break, Continue, Next, Exit as ExitStep, ExitWith, Return, Mark, Steps, NoStep, Then, Choose, Form, PrimitiveAnswer, NumberOrText, OptionalNumber, a_value, form_of}
 use Rattle.sem_scripts.specs.Names.{ArrayName}
-use Rattle.mid_program.specs.Sorted.{context_of, kinds_of, is_array_place, fits, is_tested, is_dropped, stores_well, sorted, test_sorted, step_sorted, steps_sorted}
+use Rattle.mid_program.specs.Sorted.{context_of, kinds_of, is_array_place, fits, is_tested, is_dropped, lender_at, stores_well, sorted, test_sorted, step_sorted, steps_sorted}
 use Rattle.lower_model.specs.Appends.{Append, append_in}
 use Rattle.lower_model.specs.Emission.{dropped, field_at, tested}
 use Rattle.lower_model.specs.Functions.{layout_of}
-use Rattle.lower_model.specs.Places.{Bases, room, arrays_in, step_room, steps_room, step_arrays, steps_arrays, step_iterators, steps_iterators}
+use Rattle.lower_model.specs.Places.{Bases, number_global, room, arrays_in, step_room, steps_room, step_arrays, steps_arrays, step_iterators, steps_iterators}
 use Rattle.lower_model.specs.Quick.{Within, test_within, Holder, OfName, OfParameter, Source, Held, Constant, Sum, sum_names, sum_op, sum_in, Update, update_in, Tally, tally_in, Remainder, remainder_in, remainder_names, most_multiplied, multiplied, Counted, counted_in, Pair, pair_names, pair_in, step_jumps, is_nothing}
 use Rattle.lower_model.specs.Small.{emit}
 use Rattle.lower_model.proofs.Chains.{IsChain, one_text, more_texts, append_is, chain_sorted, last_appended, last_sorted}
-use Rattle.lower_model.proofs.QuickParts.{HolderFits}
+use Rattle.lower_model.proofs.QuickParts.{HolderFits, takes_fits}
 use Rattle.lower_model.proofs.Remainders.{remainder_is, remainder_sorted, remainder_unboxed}
 use Rattle.lower_model.proofs.QuickSteps.{near_source, test_is, sum_is, sum_unboxed, pair_is, pair_unboxed, counted_is}
 use Rattle.lower_model.proofs.Summing.{IsSource}
 use Rattle.lower_model.proofs.Tallies.{Shape, tally_code, IsAdded, tally_is, tally_room, tally_sorted}
 use Rattle.lower_model.proofs.Updating.{UpdateParts, added_code, added_is, added_sorted}
-use Rattle.lower_model.specs.Statements.{holder_cleared, name_put, name_numbered, source_numbered, source_taken, sum_kept, sum_taken, summed_anyway, both_asked, updated, element_numbered, element_given, tallied, text_appended, chain_appended, appended_dropped, remainder_taken, remainder_dropped, barely_dropped, plainly_dropped, quickly_dropped, left_unless_counted, left_unless_pair, left_unless, left_by, key_stored, iterator_left, step_emitted, steps_emitted, answer_given, returned}
+use Rattle.lower_model.specs.Statements.{holder_cleared, name_put, global_found, numbered_or, parameter_found, name_numbered, source_numbered, source_taken, sum_kept, sum_taken, summed_anyway, both_asked, updated, element_numbered, element_given, tallied, text_appended, chain_appended, appended_dropped, remainder_taken, remainder_dropped, barely_dropped, plainly_dropped, quickly_dropped, left_unless_counted, left_unless_pair, left_unless, left_by, key_stored, iterator_left, step_emitted, steps_emitted, answer_given, parameter_returned, returned}
 use Rattle.host_imports.specs.declared.import.Import.TheVariants.{OfPrimitive, Drop, IterFree}
 use Rattle.agreement.proofs.TypedLemmas.Singles.{Stack, Labels, Exit, inner, nearest, reads_global, writes_global, nothing, called, get, put, tee, read, write, word, long, binary, compare, test, discard, leave, leave_if, blocked, looped, branched}
 use Rattle.agreement.proofs.TypedLemmas.Standing.{Stands, kind_below}
@@ -81,17 +82,27 @@ module _ {p : Program} {ks : List Kind} {b : Bases} {C : Context} (at : Stands p
     iterator_left_ok u lt lu r = emptied_ok at (at.handle 0 lt) (moved_out_ok at (at.iterator u lu) (called [] (at.imported IterFree) r))
 
   -- sums in all cases
-  module _ {L : Labels} {k : Instructions} {rs : Stack} where
-    name_numbered_ok : {ps : Stack} {t d : ℕ} (h : Holder) → HolderFits p unwatched ks [] b 0 0 h → t < b.temporaries → Exit L d → CodeOk C L k ps rs → CodeOk C L (name_numbered (layout_of p b) h t d k) ps rs
-    name_numbered_ok {t = t} (OfName i) hf lt x r =
-        let li = kind_below (kinds_of p.globals) i Unboxed hf in
+  module _ {L : Labels} {k : Instructions} {ps rs : Stack} where
+    global_numbered_ok : {t d : ℕ} (i : ℕ) → i < length (kinds_of p.globals) → t < b.temporaries → Exit L d → CodeOk C L k ps rs →
+        CodeOk C L (numbered_or (layout_of p b) (GlobalGet (number_global p.ranges i)) (global_found (layout_of p b) i t d Done) t k) ps rs
+    global_numbered_ok {t = t} i li lt x r =
         let g = at.name_handle i li in
         read (at.name_number i li) (tee (at.number t lt) (long (compare (branched
         (number_is_ok at (at.number t lt) (branched
         (copied_ok at (reads_global g) (writes_global g) (at.handle t lt) (number_of_value_ok at lt (inner (inner x)) done))
         (long (put (at.number t lt) done)) done)) done r))))
+
+    parameter_found_ok : {t d : ℕ} (o : Option ℕ) (i : ℕ) → lender_at p.lenders i ≡ o → t < b.temporaries → Exit L (suc d) → CodeOk C L k ps rs →
+        CodeOk C L (parameter_found (layout_of p b) o t d k) ps rs
+    parameter_found_ok {t = t} None i e lt x r = long (put (at.number t lt) r)
+    parameter_found_ok (Some g) i e lt x r = global_numbered_ok g (at.lender i g e) lt x r
+
+  module _ {L : Labels} {k : Instructions} {rs : Stack} where
+    name_numbered_ok : {ps : Stack} {t d : ℕ} (h : Holder) → HolderFits p unwatched ks [] b 0 0 h → t < b.temporaries → Exit L d → CodeOk C L k ps rs → CodeOk C L (name_numbered (layout_of p b) h t d k) ps rs
+    name_numbered_ok (OfName i) hf lt x r = global_numbered_ok i (kind_below (kinds_of p.globals) i Unboxed hf) lt x r
     name_numbered_ok {t = t} (OfParameter i) hf lt x r =
-        get (at.parameter i Unboxed hf) (tee (at.number t lt) (long (compare (branched (long (put (at.number t lt) done)) done r))))
+        get (at.parameter i Unboxed hf) (tee (at.number t lt) (long (compare (branched
+        (parameter_found_ok (lender_at p.lenders i) i refl lt (inner x) done) done r))))
 
     source_numbered_ok : {ps : Stack} {t d : ℕ} (q : Source) → IsSource p unwatched ks [] b 0 0 q → t < b.temporaries → Exit L d → CodeOk C L k ps rs → CodeOk C L (source_numbered (layout_of p b) q t d k) ps rs
     source_numbered_ok {t = t} (Held i) h lt x r = name_numbered_ok {t = t} i h lt x r
@@ -129,7 +140,7 @@ module _ {p : Program} {ks : List Kind} {b : Bases} {C : Context} (at : Stands p
         parts = added_sorted p unwatched ks [] b 0 0 q s
 
         taken : CodeOk C L (sum_taken (layout_of p b) (sum_op q.op) q.target 0 d k) (I64 ∷ (I64 ∷ [])) rs
-        taken = sum_taken_ok {t = 0} (sum_op q.op) q.target parts.kind first x r
+        taken = sum_taken_ok {t = 0} (sum_op q.op) q.target (takes_fits p unwatched ks [] b 0 0 q.target parts.kind) first x r
 
         by : (o : Option ℤ) → CodeOk C L (both_asked (layout_of p b) o q d (sum_taken (layout_of p b) (sum_op q.op) q.target 0 d k)) [] rs
         by (Some z) =
@@ -217,7 +228,7 @@ module _ {p : Program} {ks : List Kind} {b : Bases} {C : Context} (at : Stands p
         let t = remainder_sorted p unwatched ks [] b 0 0 q (subst (λ (c : Code). sorted (context_of p ks) [] c ≡ true) (remainder_is e q eq).code s) in
         all_unsure_ok at (remainder_names q) (pos (most_multiplied q.multiple.factor)) (most_multiplied q.multiple.factor + most_multiplied q.multiple.factor) (remainder_unboxed p unwatched ks [] b 0 0 q t)
         (branched (dropped_ok [] [] e 0 0 (suc d) (none_below b.temporaries (omega (arith, h, he))) s (omega (arith, h)) (omega (arith, g)) (inner x) done)
-        (remainder_taken_ok q t.name t.target done) r)
+        (remainder_taken_ok q t.name (takes_fits p unwatched ks [] b 0 0 q.target t.target) done) r)
 
   module _ {L : Labels} {k : Instructions} {rs : Stack} where
     barely_dropped_ok : (o : Option Tally) (e : Code) (d : ℕ) → tally_in e ≡ o → sorted (context_of p ks) [] e ≡ true → room e ≤ b.temporaries → arrays_in e ≤ b.arrays → Exit L d →
@@ -242,9 +253,10 @@ module _ {p : Program} {ks : List Kind} {b : Bases} {C : Context} (at : Stands p
     quickly_dropped_ok (Some a) e d eq s h g x r =
         let t = sum_is p unwatched ks [] b 0 0 e a eq s in
         let few = t.room in
+        let kind = takes_fits p unwatched ks [] b 0 0 a.target t.kind in
         all_unsure_ok at (sum_names a) (pos (2 ^ 52)) (2 ^ 53) (sum_unboxed p unwatched ks [] b 0 0 e a t)
-        (branched (anyway_ok a (near_source p unwatched ks [] b 0 0 a.left t.left) (near_source p unwatched ks [] b 0 0 a.right t.right) t.kind (omega (arith, h, few)) (inner x) done)
-        (source_ok at (2 ^ 52) a.left t.left (source_ok at (2 ^ 52) a.right t.right (binary (holder_put a.target t.kind done)))) r)
+        (branched (anyway_ok a (near_source p unwatched ks [] b 0 0 a.left t.left) (near_source p unwatched ks [] b 0 0 a.right t.right) kind (omega (arith, h, few)) (inner x) done)
+        (source_ok at (2 ^ 52) a.left t.left (source_ok at (2 ^ 52) a.right t.right (binary (holder_put a.target kind done)))) r)
 
     left_unless_counted_ok : (o : Option Counted) (e : Code) (d out : ℕ) → counted_in e ≡ o → test_sorted (context_of p ks) e ≡ true → room e ≤ b.temporaries → arrays_in e ≤ b.arrays → Exit L d → Exit L out →
         CodeOk C L k [] rs → CodeOk C L (left_unless_counted (layout_of p b) o e d out k) [] rs
@@ -300,6 +312,13 @@ module _ {p : Program} {ks : List Kind} {b : Bases} {C : Context} (at : Stands p
     answer_given_ok OptionalNumber lt y r = get (at.number 0 lt) (put at.answer (leave y r))
     answer_given_ok f lt y r = long (put at.answer (leave y r))
 
+  parameter_returned_ok : {L : Labels} {k : Instructions} {rs : Stack} (o : Option ℕ) (i d : ℕ) → sorted (context_of p ks) [] (Get (Parameter true i)) ≡ true →
+      0 < b.temporaries → Exit L d → Exit L (suc d) → CodeOk C L k [] rs → CodeOk C L (parameter_returned (layout_of p b) o i d k) [] rs
+  unfolding sorted
+  parameter_returned_ok None i d s lt x y r = get (at.parameter i Unboxed s) (put at.answer (leave y r))
+  parameter_returned_ok (Some g) i d s lt x y r =
+      code_ok at false [] [] (Get (Parameter true i)) 0 0 d (none_below b.temporaries lt) s lt (omega arith) x (answer_given_ok NumberOrText lt y r)
+
   returned_ok : {L : Labels} {k : Instructions} {rs : Stack} (e : Code) (d : ℕ) → fits (form_of [] e) sort.Value ≡ true → sorted (context_of p ks) [] e ≡ true → room e ≤ b.temporaries → arrays_in e ≤ b.arrays →
       Exit L d → Exit L (suc d) → CodeOk C L k [] rs → CodeOk C L (returned (layout_of p b) e d k) [] rs
   unfolding sorted
@@ -318,7 +337,7 @@ module _ {p : Program} {ks : List Kind} {b : Bases} {C : Context} (at : Stands p
       (tested_ok e t (omega (arith, h)) (omega (arith, g)) x (branched so
       (returned_ok c (suc d) s3.0 s5.1 (omega (arith, h)) (omega (arith, g)) (inner x) (inner y) done)
       r))
-  returned_ok (Get (Parameter true i)) d f s h g x y r = get (at.parameter i Unboxed s) (put at.answer (leave y r))
+  returned_ok (Get (Parameter true i)) d f s h g x y r = parameter_returned_ok (lender_at p.lenders i) i d s h x y r
   returned_ok e d f s h g x y r =
       let he = room_there e in
       let lt : 0 < b.temporaries = omega (arith, h, he) in

@@ -10,7 +10,7 @@ use Rattle.wasm_types.specs.Typing.{CodeOk, context_in, function_types, typed_in
 use Rattle.wasm_types.specs.declared.types.ValType.TheVariants.{I32, I64}
 use Rattle.wasm_types.specs.declared.module.ExportDesc.TheVariants.{Func, Memory}
 use Rattle.mid_program.specs.Mid.{Kind, Routine, Program}
-use Rattle.mid_program.specs.Sorted.{context_of, kinds_of, announced_names, all_differ, routines_sorted, parts_sorted, steps_sorted, is_sorted, IsSorted}
+use Rattle.mid_program.specs.Sorted.{context_of, kinds_of, announced_names, all_differ, are_lenders, routines_sorted, parts_sorted, steps_sorted, is_sorted, IsSorted}
 use Rattle.lower_model.specs.Functions.{texts_of, routine_bases, main_bases, routine_callee, main_callee}
 use Rattle.host_imports.specs.Imports.{import_type}
 use Rattle.lower_model.specs.Machine.{Callee}
@@ -42,55 +42,60 @@ module _ (p : Program) where
   abbrev IsHeard : Callee → Type 0
   IsHeard f = (n : ℕ) → calls_in n f.body ≡ true → any_calls n (all_callees p) ≡ true
 
-  routine_ok : (r : Routine) → IsHeard (routine_callee p r) → steps_sorted (context_of p r.parameters) true false r.body ≡ true →
+  abbrev lend : Bool
+  lend = are_lenders (kinds_of p.globals) p.lenders
+
+  routine_ok : lend ≡ true → (r : Routine) → IsHeard (routine_callee p r) → steps_sorted (context_of p r.parameters) true false r.body ≡ true →
       BodyOk (routine_callee p r)
-  routine_ok r h s =
+  routine_ok l r h s =
       let enough : Enough r.body (routine_bases r) = record { temporaries = omega arith; iterators = omega arith; arrays = omega arith } in
       renumbered_ok (called_imports p) (callee_in (module_of p)) (typed_in (module_of p)) (whole_context p I64 r.parameters (routine_bases r))
       (Some I64 ∷ []) (routine_callee p r).body [] (I64 ∷ []) refl
-      (λ n e. called_there p n (h n e)) (routine_body_ok (stands p I64 r.parameters (routine_bases r) refl) r.body s enough)
+      (λ n e. called_there p n (h n e)) (routine_body_ok (stands p I64 r.parameters (routine_bases r) refl l) r.body s enough)
 
-  main_ok : IsHeard (main_callee p) → parts_sorted p (context_of p []) ≡ true → BodyOk (main_callee p)
-  main_ok h s =
+  main_ok : lend ≡ true → IsHeard (main_callee p) → parts_sorted p (context_of p []) ≡ true → BodyOk (main_callee p)
+  main_ok l h s =
       let enough_begin : Enough p.begin (main_bases p) = record { temporaries = omega arith; iterators = omega arith; arrays = omega arith } in
       let enough_items : Enough p.items (main_bases p) = record { temporaries = omega arith; iterators = omega arith; arrays = omega arith } in
       let enough_end : Enough p.end (main_bases p) = record { temporaries = omega arith; iterators = omega arith; arrays = omega arith } in
       renumbered_ok (called_imports p) (callee_in (module_of p)) (typed_in (module_of p)) (whole_context p I32 [] (main_bases p)) (Some I32 ∷ [])
       (main_callee p).body [] (I32 ∷ []) refl
-      (λ n e. called_there p n (h n e)) (main_body_ok (stands p I32 [] (main_bases p) refl) (omega arith) s enough_begin enough_items enough_end)
+      (λ n e. called_there p n (h n e)) (main_body_ok (stands p I32 [] (main_bases p) refl l) (omega arith) s enough_begin enough_items enough_end)
 
   abbrev main_last : List Routine → List Callee
   main_last rs = map (routine_callee p) rs ++ main_callee p ∷ []
 
   -- some of the functions, the first of which has the n-th type
-  functions_ok : (rs : List Routine) (n : ℕ) → routines_sorted p rs ≡ true → parts_sorted p (context_of p []) ≡ true →
+  functions_ok : lend ≡ true → (rs : List Routine) (n : ℕ) → routines_sorted p rs ≡ true → parts_sorted p (context_of p []) ≡ true →
       ((i : ℕ) → any_calls i (main_last rs) ≡ true → any_calls i (all_callees p) ≡ true) →
       ((i j : ℕ) → n + i ≡ j → slice_get (module_of p).types j ≡ slice_get (map callee_type (main_last rs)) i) →
       All (FuncOk (module_of p)) (functions_from (called_imports p) n (main_last rs))
-  functions_ok [] n s g h t =
+  functions_ok l [] n s g h t =
       All-cons (FuncOk (module_of p)) _ [] (
         callee_type (main_callee p),
         t 0 n (omega arith),
-        main_ok
+        main_ok l
             (λ i e. h i (or_left (calls_in i (main_callee p).body) (any_calls i []) e)) g,
       ) (All-nil (FuncOk (module_of p)))
-  functions_ok (r ∷ rs) n s g h t =
+  functions_ok l (r ∷ rs) n s g h t =
       let s1 = and_parts (steps_sorted (context_of p r.parameters) true false r.body) (routines_sorted p rs) s in
       All-cons (FuncOk (module_of p)) _ (functions_from (called_imports p) (suc n) (main_last rs)) (
         callee_type (routine_callee p r),
         t 0 n (omega arith),
-        routine_ok r
+        routine_ok l r
             (λ i e. h i (or_left (calls_in i (routine_callee p r).body) (any_calls i (main_last rs)) e)) s1.0,
       )
-      (functions_ok rs (suc n) s1.1 g (λ i e. h i (or_right (calls_in i (routine_callee p r).body) (any_calls i (main_last rs)) e))
+      (functions_ok l rs (suc n) s1.1 g (λ i e. h i (or_right (calls_in i (routine_callee p r).body) (any_calls i (main_last rs)) e))
       (λ i j e. t (suc i) j (omega (arith, e))))
 
   all_functions_ok : is_sorted p ≡ true → All (FuncOk (module_of p)) (module_of p).funcs
   all_functions_ok s =
-      let s1 = and_parts (all_differ (announced_names p)) (routines_sorted p p.routines && parts_sorted p (context_of p [])) s in
+      let code = routines_sorted p p.routines && parts_sorted p (context_of p []) in
+      let s0 = and_parts (all_differ (announced_names p)) (lend && code) s in
+      let s1 = and_parts lend code s0.1 in
       let s2 = and_parts (routines_sorted p p.routines) (parts_sorted p (context_of p [])) s1.1 in
       let l = length-map (imports_of p) import_type in
-      functions_ok p.routines (length (imports_of p)) s2.0 s2.1 (λ i e. e)
+      functions_ok s1.0 p.routines (length (imports_of p)) s2.0 s2.1 (λ i e. e)
       (λ i j e. there_behind (map import_type (imports_of p)) (map callee_type (all_callees p)) i j (omega (arith, l, e)))
 
   -- The rest of the module.

@@ -15,7 +15,7 @@ use Rattle.wasm_types.specs.declared.instr.Simple.TheVariants.{Br, BrIf, Compare
 use Rattle.wasm_types.specs.declared.types.ValType.TheVariants as ty
 use Rattle.sem_scripts.specs.Names.{ArrayName}
 use Rattle.mid_program.specs.Mid.{Kind, Boxed, Unboxed, ArrayKind, Parameter, Slot, Code, Get, Choose, Let, Form, PrimitiveAnswer, NumberOrText, OptionalNumber, Step, Eval, Block as Steps_, If as Either, Loop, Each, Break, Continue, Next, Exit, ExitWith, Return, Mark, Steps, NoStep, Then as AndThen, Program, a_value, form_of, parameters_at}
-use Rattle.mid_program.specs.Sorted.{Context, all_sorted, calls_of, context_of, fits, is_array_place, is_dropped, is_kept, is_tested, keeps_well, sorted, step_sorted, steps_sorted, stores_well, test_sorted}
+use Rattle.mid_program.specs.Sorted.{Context, all_sorted, calls_of, context_of, fits, is_array_place, is_dropped, is_kept, is_tested, keeps_well, lender_at, sorted, step_sorted, steps_sorted, stores_well, test_sorted}
 use Rattle.lower_model.specs.Appends.{Append, append_in}
 use Rattle.lower_model.specs.Cells.{cell_at}
 use Rattle.lower_model.specs.Emission.{Layout, asked, dropped, field_at, tested}
@@ -24,7 +24,7 @@ use Rattle.wasm_types.specs.declared.types.ValType.{ValType}
 use Rattle.lower_model.specs.Places.{Bases, answer_local, array_local, handle_global, handle_local, handle_types, iterator_local, local_types, number_global, number_local, status_global, temporary_types, text_global, way_global}
 use Rattle.lower_model.specs.Quick.{Within, test_within, Source, Holder, OfName, OfParameter, Held, Constant, Sum, sum_names, sum_op, sum_in, Update, update_in, Tally, tally_in, Remainder, remainder_in, remainder_names, multiplied, Counted, counted_in, Pair, pair_names, pair_in, step_jumps, is_nothing}
 use Rattle.lower_model.specs.Small.{ask_row, emit, emit_if, kept_value, moved_out}
-use Rattle.lower_model.specs.Statements.{again, answer_given, returned, routine_ended, left_by, pair_left, summed, way_exit, way_next, name_numbered, source_numbered, source_taken, sum_kept, sum_taken, summed_anyway, field_numbered, both_asked, element_numbered, element_given, text_appended, chain_appended, appended_dropped, remainder_taken, remainder_dropped, barely_dropped, plainly_dropped, quickly_dropped, left_unless_counted, left_unless_pair, left_unless, all_emptied, arrays_emptied, arrays_swept, block, first_part, goes_on, has_functions, iterator_left, iterators_emptied, iterators_swept, key_stored, last_part, left_swept, main_body, names_declared, names_made, parameters_dropped, part_done, record_done, records_read, routine_body, routines_declared, step_emitted, steps_emitted, swept, temporaries_emptied, temporaries_swept, name_put}
+use Rattle.lower_model.specs.Statements.{again, answer_given, parameter_returned, returned, routine_ended, left_by, pair_left, summed, way_exit, way_next, global_found, numbered_or, parameter_found, name_numbered, source_numbered, source_taken, sum_kept, sum_taken, summed_anyway, field_numbered, both_asked, element_numbered, element_given, text_appended, chain_appended, appended_dropped, remainder_taken, remainder_dropped, barely_dropped, plainly_dropped, quickly_dropped, left_unless_counted, left_unless_pair, left_unless, all_emptied, arrays_emptied, arrays_swept, block, first_part, goes_on, has_functions, iterator_left, iterators_emptied, iterators_swept, key_stored, last_part, left_swept, main_body, names_declared, names_made, parameters_dropped, part_done, record_done, records_read, routine_body, routines_declared, step_emitted, steps_emitted, swept, temporaries_emptied, temporaries_swept, name_put}
 use Rattle.lower_model.proofs.Chains.{IsChain, one_text, more_texts, append_is, chain_sorted, last_appended, last_sorted}
 use Rattle.lower_model.proofs.Tallies.{Shape, Updating, Following, Leading, tally_code, tally_is, tally_sorted}
 use Rattle.lower_model.proofs.Updating.{added_code, added_is}
@@ -109,9 +109,18 @@ module _ (tells : Bool) (y : Layout) (sizes : ℕ → Option ℕ) (whole : Progr
   put_spares (OfParameter i) e k A r = r
 
   module _ {e : Bool} {k : Instructions} (r : So e k) where
+    -- a global's number
+    global_spares : (i t d : ℕ) → So e (numbered_or y (GlobalGet (number_global y.ranges i)) (global_found y i t d Done) t k)
+    global_spares i t d = record { so = λ A. (true, (λ q. numbered tells y sizes i), (((true, (λ q. named tells y sizes i), (refl, (refl, (refl, tt)))), (tt, tt)), (tt, r.so []))) }
+
+    found_spares : (o : Option ℕ) (t d : ℕ) → So e (parameter_found y o t d k)
+    found_spares None t d = record { so = λ A. r.so A }
+    found_spares (Some g) t d = global_spares g t (suc d)
+
+  module _ {e : Bool} {k : Instructions} (r : So e k) where
     name_spares : (i : Holder) (t d : ℕ) → So e (name_numbered y i t d k)
-    name_spares (OfName i) t d = record { so = λ A. (true, (λ q. numbered tells y sizes i), (((true, (λ q. named tells y sizes i), (refl, (refl, (refl, tt)))), (tt, tt)), (tt, r.so []))) }
-    name_spares (OfParameter i) t d = record { so = λ A. (tt, (tt, r.so [])) }
+    name_spares (OfName i) t d = global_spares r i t d
+    name_spares (OfParameter i) t d = record { so = λ A. ((found_spares done (lender_at y.lenders i) t d).so [], (tt, r.so [])) }
 
     numbered_spares : (x : Source) (t d : ℕ) → So e (source_numbered y x t d k)
     numbered_spares (Held i) t d = name_spares i t d
@@ -281,6 +290,11 @@ module _ (tells : Bool) (y : Layout) (sizes : ℕ → Option ℕ) (whole : Progr
   answer_spares k OptionalNumber d = record { so = λ A. tt }
   answer_spares k f d = record { so = λ A. tt }
 
+  parameter_spares : {e : Bool} (k : Instructions) (o : Option ℕ) (i d : ℕ) → sorted c [] (Get (Parameter true i)) ≡ true → So e (parameter_returned y o i d k)
+  parameter_spares k None i d s = record { so = λ A. tt }
+  parameter_spares k (Some g) i d s =
+      emitted_spares tells y sizes c sized same (answer_spares k NumberOrText d) false [] [] (Get (Parameter true i)) zero zero d none_kept s refl
+
   returned_spares : {e : Bool} {k : Instructions} → So e k → (x : Code) (d : ℕ) → sorted c [] x ≡ true → names_argv x ≡ false → So e (returned y x d k)
   unfolding sorted
   returned_spares r (Choose sort.Value a z w) d s q =
@@ -295,7 +309,7 @@ module _ (tells : Bool) (y : Layout) (sizes : ℕ → Option ℕ) (whole : Progr
       chosen_code (is_some (pair_in a))
       (block_spares (pair_spares (returned_spares done z (suc d) s4.0 p1.0) (pair_in a) a (suc d) zero s3.0 p.0) (returned_spares r w d s4.1 p1.1))
       (tested_spares tells y sizes c sized same (either_spares (returned_spares done z (suc d) s4.0 p1.0) (returned_spares done w (suc d) s4.1 p1.1) r) [] [] a zero zero d none_kept s3.0 p.0)
-  returned_spares r (Get (Parameter true i)) d s q = record { so = λ A. tt }
+  returned_spares {k = k} r (Get (Parameter true i)) d s q = parameter_spares k (lender_at y.lenders i) i d s
   returned_spares {k = k} r x d s q = emitted_spares tells y sizes c sized same (answer_spares k (form_of [] x) d) false [] [] x zero zero d none_kept s q
 
   -- Steps.

@@ -2,7 +2,7 @@
 use Rattle.std.proofs.Common.{◌≡◌, ℕ, zero, suc, ◌-◌, ◌≤◌, Bool, true, false, not, ◌&&◌, ◌||◌, cond, nat_eq, nat_le, nat_lt, List, [], ◌∷◌, length, drop, Option, Some, None, refl, sym, ap, ◌∙◌, subst, arith}
 use Rattle.std.proofs.lemmas.Bool.{and_parts, le-leb, le-ltb, lt-ltb}
 use Rattle.std.proofs.lemmas.Option.{slice_get_within}
-use Rattle.std.specs.Prelude.{if◌then◌else◌, get_or, ℤ}
+use Rattle.std.specs.Prelude.{if◌then◌else◌, get_or, is_some, ℤ}
 use Rattle.awk_values.specs.declared.comparison.CompareOp.{CompareOp}
 use Rattle.sem_primitives.specs.Table.{answer_of, arguments_of, can_fault, listed_answer}
 use Rattle.sem_primitives.specs.declared.sorts.Answer.{Answer}
@@ -27,9 +27,9 @@ use Rattle.mid_program.specs.declared.mid.Operation.TheVariants.{Host, Inline, A
 use Rattle.mid_program.specs.MidMeaning.{three_values}
 use Rattle.sem_scripts.specs.Names.{ArrayName, Numbered, Given}
 use Rattle.mid_program.specs.Mid.{Kind, Boxed, Unboxed, ArrayKind, Slot, Global, Parameter, Code, Do, Over, Compare, Call, Ask, AskLine, FileLine, Replace, Number, Text, Unset, Get, Set, Array, IsOpen, Choose, Seq, Let, Bound, Codes, End, At, Fixed, Fresh, Form, PrimitiveAnswer, NumberOrText, OptionalNumber, a_value, arguments, form_at, form_of, parameters_at, source_of}
-use Rattle.mid_program.specs.Sorted.{Context, all_sorted, all_values, are_enough, are_missing, count_of, fit_call, fit_row, fits, is_chosen, is_constant, is_done_here, is_dropped, is_given, is_kept, is_number, is_operation, is_slot, is_tested, keeps_well, sorted, stores_well, takes, is_bare, is_mixed}
+use Rattle.mid_program.specs.Sorted.{Context, all_sorted, all_values, are_enough, are_missing, count_of, fit_call, fit_row, fits, has_lender, is_chosen, is_constant, is_done_here, is_dropped, is_given, is_kept, is_number, is_operation, is_slot, is_tested, keeps_well, lender_at, lends, sorted, stores_well, takes, is_bare, is_mixed}
 use Rattle.lower_model.specs.Arithmetic.{calculated, compared, field_checked, is_value, may_be_text, numbers_compared, texts_beside, values_compared, zeroed_if}
-use Rattle.lower_model.specs.Emission.{Layout, Immediate, FieldOf, TextOf, NumberOf, name_read, source_pushed, added, added_or, immediate_in, immediate_or, all_appended, all_boxed, all_converted, all_emitted, all_freed, all_given, all_given_pushed, all_pushed, array_meant, array_pushed, asked as asked_until, assigned, assigned_by_number, bound_read, dropped, emitted, field_in, field_or, function_number, handle_stored, keeping_closed, left_over, listed_asked, pending_assigned, performed, sequence_closed, slot_read, slot_set, text_stored, tested, text_dropped, text_let_go, value_stored}
+use Rattle.lower_model.specs.Emission.{Layout, Immediate, FieldOf, TextOf, NumberOf, name_read, source_pushed, added, added_or, immediate_in, immediate_or, all_appended, all_boxed, all_converted, all_emitted, all_freed, all_given, all_given_pushed, all_pushed, array_meant, array_pushed, asked as asked_until, assigned, assigned_by_number, bound_read, dropped, emitted, field_in, field_or, function_number, handle_stored, keeping_closed, left_over, lent, listed_asked, parameter_read, pending_assigned, performed, sequence_closed, slot_read, slot_set, text_stored, tested, text_dropped, text_let_go, unboxed_read, value_stored}
 use Rattle.host_imports.specs.Imports.{import_answer, import_at, import_count, imports}
 use Rattle.host_imports.specs.Names.{import_number}
 use Rattle.lower_model.specs.Machine.{width}
@@ -96,9 +96,11 @@ copy_no_array fs e m h = number_no_array (form_of fs e) (or_false (is_number (fo
     or_false false false h = h
 
 taken_no_array : (c : Context) (fs : List Form) (x : Slot) (e : Code) → takes c x (source_of e) (form_of fs e) ≡ true → fits (form_of fs e) sort.Array ≡ false
-taken_no_array c fs (Global true i) e h = copy_no_array fs e (is_mixed c.mixed i) h
+taken_no_array c fs (Global true i) e h =
+    copy_no_array fs e (is_mixed c.mixed i) (and_parts (not (lends c.lenders i)) (is_number (form_of fs e) || (is_mixed c.mixed i && is_bare (source_of e))) h).1
 taken_no_array c fs (Global false i) e h = value_no_array (form_of fs e) h
-taken_no_array c fs (Parameter true i) e h = number_no_array (form_of fs e) h
+taken_no_array c fs (Parameter true i) e h =
+    number_no_array (form_of fs e) (and_parts (not (is_some (lender_at c.lenders i))) (is_number (form_of fs e)) h).1
 taken_no_array c fs (Parameter false i) e h = value_no_array (form_of fs e) h
 
 -- what is kept is no array
@@ -355,11 +357,8 @@ module _ (tells : Bool) (y : Layout) (sizes : ℕ → Option ℕ) where
 
     -- Names.
 
-    read_spares : (x : Slot) (t : ℕ) → Always e (slot_read y x t k)
-    read_spares (Global false i) t = record { so = λ A. (true, (λ q. named i), (refl, (refl, r.so A))) }
-    read_spares (Global true i) t = record { so = λ A. (true, (λ q. numbered i), ((true, (λ q. named i), (refl, (refl, tt))), (tt, r.so []))) }
-    read_spares (Parameter false i) t = record { so = λ A. (refl, r.so A) }
-    read_spares (Parameter true i) t = record { so = λ A. r.so A }
+    unboxed_spares : (i t : ℕ) → Always e (unboxed_read y i t k)
+    unboxed_spares i t = record { so = λ A. (true, (λ q. numbered i), ((true, (λ q. named i), (refl, (refl, tt))), (tt, r.so []))) }
 
     handle_spares : (o : Bool) (t : ℕ) (put : Simple) (A : Tags) → S e (emit put k) (true ∷ A) → S e (handle_stored y o t put k) A
     handle_spares true t put A p = p
@@ -367,6 +366,17 @@ module _ (tells : Bool) (y : Layout) (sizes : ℕ → Option ℕ) where
 
     pub dropped_text : (i : ℕ) → Always e (text_dropped y i k)
     dropped_text i = record { so = λ A. (true, (λ q. numbered i), ((true, (λ q. named i), (refl, (refl, tt))), (tt, r.so []))) }
+
+  module _ {e : Bool} {k : Instructions} (r : Always e k) where
+    parameter_spares : (o : Option ℕ) (i t : ℕ) → Always e (parameter_read y o i t k)
+    parameter_spares None i t = record { so = λ A. r.so A }
+    parameter_spares (Some g) i t = record { so = λ A. ((unboxed_spares none g t).so [], (tt, r.so [])) }
+
+    read_spares : (x : Slot) (t : ℕ) → Always e (slot_read y x t k)
+    read_spares (Global false i) t = record { so = λ A. (true, (λ q. named i), (refl, (refl, r.so A))) }
+    read_spares (Global true i) t = unboxed_spares r i t
+    read_spares (Parameter false i) t = record { so = λ A. (refl, r.so A) }
+    read_spares (Parameter true i) t = parameter_spares (lender_at y.lenders i) i t
 
   module _ {e : Bool} {k : Instructions} (r : Always e k) where
     stored_spares : (o : Bool) (f : Form) (t : ℕ) (put : Simple) → ((A : Tags) → S e (emit put k) (true ∷ A)) → S false (emit put Done) (true ∷ []) → Always e (value_stored y o f t put k)
@@ -524,9 +534,14 @@ module _ (tells : Bool) (y : Layout) (sizes : ℕ → Option ℕ) where
     listed_spares (listed.Print to) c t d = record { so = λ A. (refl, r.so A) }
     listed_spares (listed.Printf to) c t d = record { so = λ A. (refl, r.so A) }
 
+  module _ {e : Bool} {k : Instructions} (r : Always e k) where
+    lent_spares : (f : Form) (t : ℕ) → Always e (lent y f t k)
+    lent_spares NumberOrText t = record { so = λ A. ((refl, tt), (tt, r.so [])) }
+    lent_spares f t = r
+
   given_spares : {e : Bool} {k : Instructions} → Always e k → (fs : List Form) (ks : List Kind) (es : Codes) (t : ℕ) → Always e (all_given y fs ks es t k)
   given_spares r fs (Boxed ∷ ks) (At e es) t = to_value_spares (given_spares r fs ks es (suc t)) (form_of fs e) t
-  given_spares r fs (Unboxed ∷ ks) (At e es) t = given_spares r fs ks es (suc t)
+  given_spares r fs (Unboxed ∷ ks) (At e es) t = lent_spares (given_spares r fs ks es (suc t)) (form_of fs e) t
   given_spares r fs (ArrayKind ∷ ks) (At e es) t = given_spares r fs ks es (suc t)
   given_spares r fs (kind ∷ ks) (Fresh es) t = given_spares r fs ks es t
   given_spares r fs ks es t = r
@@ -545,26 +560,27 @@ module _ (tells : Bool) (y : Layout) (sizes : ℕ → Option ℕ) where
   all_so zero A = refl
   all_so (suc n) A = ap (all_other (suc n)) (so_many_on n A) ∙ all_so n A
 
-  given_pushed : (e : Bool) (k : Instructions) (c : Context) (fs : List Form) (ks : List Kind) (es : Codes) (t w : ℕ) (A : Tags) → NoArrays fs → fit_call fs ks es ≡ true → all_sorted c fs es ≡ true → any_argv es ≡ false →
+  given_pushed : (e : Bool) (k : Instructions) (c : Context) (lender : ℕ → Option ℕ) (fs : List Form) (ks : List Kind) (es : Codes) (t w : ℕ) (A : Tags) → NoArrays fs → fit_call lender fs ks es ≡ true → all_sorted c fs es ≡ true → any_argv es ≡ false →
       S e k (so_many (length ks) A) → S e (all_given_pushed y ks es t w k) A
   unfolding sorted all_sorted
-  given_pushed l k c fs [] End t w A n f s q r = r
-  given_pushed l k c fs (Boxed ∷ ks) (At e es) t w A n f s q r =
-      given_pushed l k c fs ks es (suc t) w (true ∷ A) n (and_parts (is_given (form_of fs e) Boxed) (fit_call fs ks es) f).1 (and_parts (sorted c fs e) (all_sorted c fs es) s).1 (or_none (names_argv e) (any_argv es) q).1 r
-  given_pushed l k c fs (Unboxed ∷ ks) (At e es) t w A n f s q r =
-      given_pushed l k c fs ks es (suc t) w (true ∷ A) n (and_parts (is_given (form_of fs e) Unboxed) (fit_call fs ks es) f).1 (and_parts (sorted c fs e) (all_sorted c fs es) s).1 (or_none (names_argv e) (any_argv es) q).1 r
-  given_pushed l k c fs (ArrayKind ∷ ks) (At e es) t w A n f s q r =
-      let g = and_parts (is_given (form_of fs e) ArrayKind) (fit_call fs ks es) f in
+  given_pushed l k c lender fs [] End t w A n f s q r = r
+  given_pushed l k c lender fs (Boxed ∷ ks) (At e es) t w A n f s q r =
+      let next : ℕ → Option ℕ = λ i. lender (suc i) in
+      let g = and_parts (is_given (lender zero) (source_of e) (form_of fs e) Boxed) (fit_call next fs ks es) f in
+      given_pushed l k c next fs ks es (suc t) w (true ∷ A) n g.1 (and_parts (sorted c fs e) (all_sorted c fs es) s).1 (or_none (names_argv e) (any_argv es) q).1 r
+  given_pushed l k c lender fs (Unboxed ∷ ks) (At e es) t w A n f s q r =
+      let next : ℕ → Option ℕ = λ i. lender (suc i) in
+      let g = and_parts (is_given (lender zero) (source_of e) (form_of fs e) Unboxed) (fit_call next fs ks es) f in
+      given_pushed l k c next fs ks es (suc t) w (true ∷ A) n g.1 (and_parts (sorted c fs e) (all_sorted c fs es) s).1 (or_none (names_argv e) (any_argv es) q).1 r
+  given_pushed l k c lender fs (ArrayKind ∷ ks) (At e es) t w A n f s q r =
+      let next : ℕ → Option ℕ = λ i. lender (suc i) in
+      let g = and_parts (is_given (lender zero) (source_of e) (form_of fs e) ArrayKind) (fit_call next fs ks es) f in
       let x = and_parts (sorted c fs e) (all_sorted c fs es) s in
       let o = or_none (names_argv e) (any_argv es) q in
-      array_spares _ _ _ (array_meant e) (meant_other c fs e n x.0 o.0 (many_array (form_of fs e) g.0)) (given_pushed l k c fs ks es (suc t) w (true ∷ A) n g.1 x.1 o.1 r)
-    where
-      many_array : (f : Form) → is_given f ArrayKind ≡ true → fits f sort.Array ≡ true
-      many_array OptionalNumber h = cc
-      many_array NumberOrText h = h
-      many_array (PrimitiveAnswer a) h = h
-  given_pushed l k c fs (ArrayKind ∷ ks) (Fresh es) t w A n f s q r = given_pushed l k c fs ks es t (suc w) (true ∷ A) n f (and_parts (are_missing es) (all_sorted c fs es) s).1 q r
-  given_pushed l k c fs ks es t w A n f s q r = cc
+      array_spares _ _ _ (array_meant e) (meant_other c fs e n x.0 o.0 g.0) (given_pushed l k c next fs ks es (suc t) w (true ∷ A) n g.1 x.1 o.1 r)
+  given_pushed l k c lender fs (ArrayKind ∷ ks) (Fresh es) t w A n f s q r =
+      given_pushed l k c (λ i. lender (suc i)) fs ks es t (suc w) (true ∷ A) n f (and_parts (are_missing es) (all_sorted c fs es) s).1 q r
+  given_pushed l k c lender fs ks es t w A n f s q r = cc
 
   freed_spares : {e : Bool} {k : Instructions} → Always e k → (w n : ℕ) → Always e (all_freed y w n k)
   freed_spares r w zero = r
@@ -672,15 +688,17 @@ module _ (tells : Bool) (y : Layout) (sizes : ℕ → Option ℕ) where
           emitted_spares (immediate_spares_or r o (form_of fs e) (immediate_in (is_value (form_of fs e)) f) t d
           (emitted_spares (compared_spares r o (form_of fs e) (form_of fs f) t d) false fs ts f (suc t) w d n s2.1 p.1)) false fs ts e t w d n s2.0 p.0
       emitted_spares {l = l} {k = k} r v fs ts (Call f es) t w d n s q =
+          let lender = lender_at c.lenders in
           let js = parameters_at c.calls f in
-          let s1 = and_parts (nat_lt f (length c.calls)) (fit_call fs js es && all_sorted c fs es) s in
-          let s2 = and_parts (fit_call fs js es) (all_sorted c fs es) s1.1 in
+          let s1 = and_parts (nat_lt f (length c.calls)) (fit_call lender fs js es && all_sorted c fs es) s in
+          let s2 = and_parts (fit_call lender fs js es) (all_sorted c fs es) s1.1 in
           let ks = parameters_at y.calls f in
-          let fit = subst (λ z. fit_call fs (parameters_at z f) es ≡ true) same s2.0 in
-          emits_spares (given_spares (record { so = λ A. given_pushed _ _ c fs ks es t w A n fit s2.1 q (function_spares l (answer_kept b t d (all_freed y w (made_in es) k)) f ks A (sized f s1.0) (λ B. answer_kept_spares (freed_spares r w (made_in es)) t d B)) }) fs ks es t) fs ts es t w d n s2.1 q
+          let fit = subst (λ z. fit_call lender fs (parameters_at z f) es ≡ true) same s2.0 in
+          emits_spares (given_spares (record { so = λ A. given_pushed _ _ c lender fs ks es t w A n fit s2.1 q (function_spares l (answer_kept b t d (all_freed y w (made_in es) k)) f ks A (sized f s1.0) (λ B. answer_kept_spares (freed_spares r w (made_in es)) t d B)) }) fs ks es t) fs ts es t w d n s2.1 q
       emitted_spares r v fs ts Ask t w d n s q = main_asked (code_number_spares r t) t d
       emitted_spares r v fs ts (AskLine e) t w d n s q =
-          let s1 = and_parts (stores_well fs e) (sorted c (a_value ∷ fs) e) s in
+          let s0 = and_parts (not (has_lender c.lenders)) (stores_well fs e && sorted c (a_value ∷ fs) e) s in
+          let s1 = and_parts (stores_well fs e) (sorted c (a_value ∷ fs) e) s0.1 in
           line_asked (record { so = λ A. ((refl, (emitted_spares (text_spares none fs e t) true (a_value ∷ fs) (suc t ∷ ts) e (suc (suc t)) w (suc d) (one_kept a_value fs refl n) s1.1 q).so []), (tt, (code_number_spares r t).so [])) }) t d
       emitted_spares r v fs ts (FileLine f e) t w d n s q =
           let a = sorted c fs f in

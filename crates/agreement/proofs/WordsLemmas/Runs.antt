@@ -25,7 +25,7 @@ use Rattle.host_imports.specs.Imports.{host_finds}
 use Rattle.host_step.specs.Starts.{state_in}
 use Rattle.mid_program.specs.Mid.{Kind, Program, Routine, parameters_at}
 use Rattle.sem_scripts.specs.ScriptRun.{Setting, setting_in}
-use Rattle.mid_program.specs.Sorted.{Context, IsSorted, all_differ, announced_names, context_of, is_sorted, kinds_of, parts_sorted, routines_sorted, steps_sorted}
+use Rattle.mid_program.specs.Sorted.{Context, IsSorted, all_differ, announced_names, are_lenders, context_of, is_sorted, kinds_of, parts_sorted, routines_sorted, steps_sorted}
 use Rattle.lower_model.specs.Cells.{cell_at}
 use Rattle.lower_model.specs.Emission.{Layout}
 use Rattle.lower_model.specs.Functions.{layout_of, main_bases, main_callee, routine_bases, routine_callee}
@@ -198,11 +198,14 @@ module _ (p : Program) (is : IsSorted p) (names : program_names p ≡ false) (ag
   abbrev c0 : Context
   c0 = context_of p []
 
-  s0 : (all_differ (announced_names p) ≡ true) × ((routines_sorted p p.routines && parts_sorted p c0) ≡ true)
-  s0 = and_parts (all_differ (announced_names p)) (routines_sorted p p.routines && parts_sorted p c0) (from_T (is_sorted p) is)
+  abbrev lend : Bool
+  lend = are_lenders (kinds_of p.globals) p.lenders
+
+  s0 : (all_differ (announced_names p) ≡ true) × ((lend && (routines_sorted p p.routines && parts_sorted p c0)) ≡ true)
+  s0 = and_parts (all_differ (announced_names p)) (lend && (routines_sorted p p.routines && parts_sorted p c0)) (from_T (is_sorted p) is)
 
   s1 : (routines_sorted p p.routines ≡ true) × (parts_sorted p c0 ≡ true)
-  s1 = and_parts (routines_sorted p p.routines) (parts_sorted p c0) s0.1
+  s1 = and_parts (routines_sorted p p.routines) (parts_sorted p c0) (and_parts lend (routines_sorted p p.routines && parts_sorted p c0) s0.1).1
 
   s2 : (steps_sorted c0 false false p.begin ≡ true) × ((steps_sorted c0 false false p.items && steps_sorted c0 false false p.end) ≡ true)
   s2 = and_parts (steps_sorted c0 false false p.begin) (steps_sorted c0 false false p.items && steps_sorted c0 false false p.end) s1.1

@@ -1,4 +1,5 @@
--- Rows: the statement `n = n + 1`, where n is unboxed, where a text stands beside it, where the sum is out of range, and where n is boxed.
+-- Rows: the statement `n = n + 1`, where n is unboxed, where a text stands beside it, where the sum is out of range, and where n is boxed; and a parameter,
+-- where n lends at its place and where nothing does.
 use Rattle.std.specs.Prelude.{◌≡◌, ◌≢◌, T, nat_lt, ℕ, zero, ◌^◌, Bool, true, false, List, [], ◌∷◌, codes, map, option_map, is_some, is_none, Option, Some, None, pos, refl}
 use Rattle.std.proofs.Common.{subst}
 use Rattle.awk_values.specs.Faults.{fault_number}
@@ -14,7 +15,7 @@ use Rattle.wasm_store.specs.Words.{zero_of}
 use Rattle.wasm_model.specs.Machines.{Conf, ProgramForm}
 use Rattle.mid_program.specs.declared.mid.Arithmetic.TheVariants.{Plus}
 use Rattle.mid_program.specs.declared.mid.Operation.TheVariants.{Inline}
-use Rattle.mid_program.specs.Mid.{At, Boxed, Code, Do, End, Eval, Get, Global, Kind, NoStep, Number, Over, Program, Set, Steps, Then, Unboxed}
+use Rattle.mid_program.specs.Mid.{At, Boxed, Code, Do, End, Eval, Get, Global, Kind, NoStep, Number, Over, Parameter, Program, Set, Steps, Then, Unboxed}
 use Rattle.lower_model.specs.Emission.{all_emitted, emitted}
 use Rattle.lower_model.specs.Functions.{main_bases}
 use Rattle.host_imports.specs.Names.{import_number}
@@ -22,6 +23,7 @@ use Rattle.lower_model.specs.Modules.{called_imports, imports_of, module_of, ren
 use Rattle.lower_model.specs.Places.{local_types}
 use Rattle.lower_model.specs.Small.{ask_row, emit, minus_one, text_beside}
 use Rattle.lower_model.specs.Statements.{step_emitted, steps_emitted}
+use Rattle.agreement.specs.Quiet.Laned.{IsLaned}
 use Rattle.agreement.specs.Quiet.Quiet.{host_call_free}
 use Rattle.agreement.specs.Quiet.Sums.{AtSum, IsSum, code_in, constant, joined, name}
 
@@ -46,6 +48,7 @@ counting u = Then (Eval (Set (Global u 0) (n_plus_one u))) (printing u)
 abbrev script : Bool → Program
 script u = record {
   texts = [];
+  lenders = [];
   globals = (record { name = codes "n"; kind = kind_for u; mixed = false }) ∷ [];
   routines = [];
   ranges = 0;
@@ -128,3 +131,12 @@ text_there = (refl, refl)
 pub boxed_statement : (is_some (host_call_free (machine false) 3 (begun false 7 0)) ≡ true) × (is_none (host_call_free (machine false) 4 (begun false 7 0)) ≡ true)
 unfolding emitted all_emitted step_emitted steps_emitted
 boxed_statement = (refl, refl)
+
+abbrev lending : Option ℕ → Program
+lending lender = record (script true) { lenders = lender ∷ [] }
+
+pub own_parameter : IsLaned (lending None) (Unboxed ∷ []) (λ i. ⊥) (Parameter true 0)
+own_parameter = (refl, refl)
+
+pub lent_parameter : IsLaned (lending (Some 0)) (Unboxed ∷ []) (λ i. ⊥) (Parameter true 0) → ⊥
+lent_parameter h = let e : Some 0 ≡ None = h.1 in cc

@@ -25,7 +25,8 @@ abbrev pub kinds_at : Resolved → Home → List Kind
 kinds_at script (OfFunction f) = (routine_at (final_program script).routines f).parameters
 kinds_at script home = []
 
--- a name of a number at this place: it is unboxed, and a global takes no copies, and is none of those to which the command line has assigned
+-- a name of a number at this place: it is unboxed, a global takes no copies and is none of those to which the command line has assigned, and nothing lends
+-- at the place of a parameter
 abbrev pub IsNumberName : (script : Resolved) → Home → (Assigned : ℕ → Type 0) → Variable → Type 0
 IsNumberName script home Assigned = IsSo (IsLaned (final_program script) (kinds_at script home) Assigned) (lanes_of script).globals (lanes_at script home)
 

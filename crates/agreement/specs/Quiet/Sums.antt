@@ -1,5 +1,5 @@
 -- Statements `name = Expr` on numbers alone, in mid code: what they are, where a run stands at one, and where it then comes to.
-use Rattle.std.specs.Prelude.{ℕ, ◌≡◌, ◌≢◌, ◌<◌, ℤ, true, false, [], slice_get, Some}
+use Rattle.std.specs.Prelude.{ℕ, ◌≡◌, ◌≢◌, ◌<◌, ℤ, true, false, List, [], slice_get, Option, Some, None}
 use Rattle.awk_values.specs.Faults.{fault_number}
 use Rattle.awk_values.specs.declared.fault.Fault.TheVariants.{Range}
 use Rattle.sem_primitives.specs.declared.table.Primitive.TheVariants as row
@@ -11,6 +11,7 @@ use Rattle.mid_program.specs.declared.mid.Arithmetic.{Arithmetic}
 use Rattle.mid_program.specs.declared.mid.Arithmetic.TheVariants as inline
 use Rattle.mid_program.specs.declared.mid.Operation.TheVariants.{AsNumber, Inline}
 use Rattle.mid_program.specs.Mid.{At, Code, Do, End, Eval, Get, Global, Number, Parameter, Program, Set, Slot, Step, Steps, Then}
+use Rattle.mid_program.specs.Sorted.{lender_at}
 use Rattle.lower_model.specs.Functions.{layout_of}
 use Rattle.lower_model.specs.Modules.{called_imports, renumbered}
 use Rattle.lower_model.specs.Places.{Bases, handle_global, number_global}
@@ -35,13 +36,14 @@ pub data IsSum (Is : Slot → Type 0) : Code → Type 0 where
   itself : (a : Code) → IsSum Is a → IsSum Is (Do AsNumber (At a End))
 
 -- An unboxed name beside whose number no text stands: its handle is none, and its number is not the one that says that a text is there.
--- A parameter is one of the function.
-abbrev pub HasNoText : (ranges : ℕ) → Bases → Conf → Slot → Type 0
-HasNoText ranges b c (Global true i) = (slice_get c.globals (handle_global ranges i) ≡ Some (I32 minus_one)) ×
+-- A parameter is one of the function, and nothing lends at its place.
+abbrev pub HasNoText : (ranges : ℕ) → (lenders : List (Option ℕ)) → Bases → Conf → Slot → Type 0
+HasNoText ranges lenders b c (Global true i) = (slice_get c.globals (handle_global ranges i) ≡ Some (I32 minus_one)) ×
     (slice_get c.globals (number_global ranges i) ≢ Some (I64 text_beside))
-HasNoText ranges b c (Parameter true i) = (i < b.parameters) × (slice_get c.frame.locals i ≢ Some (I64 text_beside))
-HasNoText ranges b c (Global false i) = ⊥
-HasNoText ranges b c (Parameter false i) = ⊥
+HasNoText ranges lenders b c (Parameter true i) =
+    (i < b.parameters) × (slice_get c.frame.locals i ≢ Some (I64 text_beside)) × (lender_at lenders i ≡ None)
+HasNoText ranges lenders b c (Global false i) = ⊥
+HasNoText ranges lenders b c (Parameter false i) = ⊥
 
 -- the code of steps, as a function of the module has it whose locals stand so: u iterators are in use, so many labels are between it and the exit, the
 -- place where `break` goes and the one where `continue` goes, and k comes after it
@@ -61,8 +63,8 @@ pub record AtSum (p : Program) (c : Conf) : Type 0 where
   pub continuing : ℕ
   pub after : Instructions
   pub code : c.frame.code ≡ code_in p bases (Then (Eval (Set target expression)) (Then next further)) iterators out breaking continuing after
-  pub target_is : HasNoText p.ranges bases c target
-  pub sum : IsSum (HasNoText p.ranges bases c) expression
+  pub target_is : HasNoText p.ranges p.lenders bases c target
+  pub sum : IsSum (HasNoText p.ranges p.lenders bases c) expression
 
 -- THE NEXT STATEMENT, in the same call of the function, within the same labels
 pub record AtNext (p : Program) (c : Conf) (a : AtSum p c) (there : Conf) : Type 0 where

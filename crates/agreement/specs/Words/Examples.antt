@@ -34,6 +34,7 @@ walked = refl
 abbrev script : Program
 script = record {
   texts = [];
+  lenders = [];
   globals = record { name = codes "A"; kind = Unboxed; mixed = false }
       ∷ (record { name = codes "B"; kind = Unboxed; mixed = false }
       ∷ (record { name = codes "C"; kind = Unboxed; mixed = false } ∷ []));

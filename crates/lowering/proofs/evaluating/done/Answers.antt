@@ -1,4 +1,4 @@
-use Rattle.std.proofs.Common.{◌≡◌, None, ap, sym, ◌∙◌}
+use Rattle.std.proofs.Common.{◌≡◌, None, ap, sym, ◌∙◌, arith}
 use Rattle.std.specs.Option.{option_map}
 use Rattle.mid_program.specs.ViewCode.{view}
 use Rattle.lower_model.specs.Quick.{sum_in, tally_in, update_in}
@@ -42,7 +42,9 @@ pub remainder_done-requires-clause-remainder : goal.remainder_done-requires-clau
 remainder_done-requires-clause-remainder c = remainder_fits (view_layout c.args.layout.now) (view c.args.code.now) (view_remainder c.in-Some-remainder_in.remainder) 0 0 c.args.exit (sym c.in-Some-remainder_in.ensures) c.requires.fit
 
 pub remainder_done-requires-clause-fit : goal.remainder_done-requires-clause-fit
-remainder_done-requires-clause-fit c = remainder_deeper (view_layout c.args.layout.now) (view c.args.code.now) (view_remainder c.in-Some-remainder_in.remainder) c.args.exit (sym c.in-Some-remainder_in.ensures) c.requires.labels c.requires.fit
+remainder_done-requires-clause-fit c =
+    let labels = c.requires.labels in
+    remainder_deeper (view_layout c.args.layout.now) (view c.args.code.now) (view_remainder c.in-Some-remainder_in.remainder) c.args.exit (sym c.in-Some-remainder_in.ensures) (omega (arith, labels)) c.requires.fit
 
 pub returns-in-Some-remainder_in : goal.returns-in-Some-remainder_in
 returns-in-Some-remainder_in c =

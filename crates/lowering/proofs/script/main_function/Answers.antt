@@ -1,4 +1,4 @@
-use Rattle.std.proofs.Common.{◌≤◌, ap, map, subst, sym, ◌∙◌}
+use Rattle.std.proofs.Common.{◌<◌, ap, map, subst, sym, ◌∙◌}
 use Rattle.wasm_types.specs.declared.types.ValType.TheVariants.{I32}
 use Rattle.mid_program.specs.View.{view_kind, view_mid}
 use Rattle.lower_model.specs.Functions.{layout_of, main_bases}
@@ -8,21 +8,17 @@ use Rattle.lowering.specs.StepFits.{PartsFit}
 use Rattle.lower_modules.specs.Lengths.{least_in}
 use Rattle.lower_modules.specs.Limits.{most_bytes}
 use Rattle.lowering.proofs.Smallness.{main_fits}
-use Rattle.lowering.proofs.Weighing.{passed}
 use Rattle.lowering.proofs.script.main_function.Goals as goal
 
-pub main_length-requires : goal.main_length-requires
-main_length-requires c =
+pub is_too_long-requires : goal.is_too_long-requires
+is_too_long-requires c =
     let p = view_mid c.args.layout.now.program.now in
     subst (λ (b : Bases). PartsFit (layout_of p b) p) (sym (c.bases-bases.ensures ∙ c.in-Some.ensures.0)) (main_fits p c.args.layout.now.small c.requires.few c.in-Some.ensures.1 c.requires.sorted)
 
-pub returns-then-branch-gt-MOST_BYTES-clause-too_large : goal.returns-then-branch-gt-MOST_BYTES-clause-too_large
-returns-then-branch-gt-MOST_BYTES-clause-too_large c = λ e small.
+pub returns-then-branch-clause-too_large : goal.returns-then-branch-clause-too_large
+returns-then-branch-clause-too_large c = λ e small.
     let p = view_mid c.args.layout.now.program.now in
-    let n = c.in_ok-main_length.field-0 in
-    let least : n ≤ least_in (main_body (layout_of p c.bases-bases.result) p) = c.in_ok-main_length.ensures in
-    passed most_bytes n (least_in (main_body (layout_of p (main_bases p)) p)) c.if-branch-gt-MOST_BYTES.true
-    (subst (λ (b : Bases). n ≤ least_in (main_body (layout_of p b) p)) (c.bases-bases.ensures ∙ c.in-Some.ensures.0) least)
+    subst (λ (b : Bases). most_bytes < least_in (main_body (layout_of p b) p)) (c.bases-bases.ensures ∙ c.in-Some.ensures.0) (c.in_ok-is_too_long.ensures c.if-branch.true)
 
 pub main_code-requires-clause-fit : goal.main_code-requires-clause-fit
 main_code-requires-clause-fit c =

@@ -1,6 +1,5 @@
 use Rattle.wasm_types.specs.Syntax.{Done}
-use Rattle.lower_pieces.proofs.Appended.{◌⨟◌}
 use Rattle.lowering.proofs.summing.name_numbered.Goals as goal
 
 pub returns : goal.returns
-returns c = λ k. c.when.ensures _ (c.number_found.ensures Done _ (c.new-code.ensures _)) k ⨟ (rw (c.name_read.ensures, c.number.ensures) at c.emit_all.ensures) _
+returns c = (rw c.name_read.ensures at c.numbered_or.ensures) _ (c.number_found.ensures Done _ (c.new-found.ensures _))

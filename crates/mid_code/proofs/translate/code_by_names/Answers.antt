@@ -9,7 +9,7 @@ use Rattle.awk_resolve.specs.declared.function_names.NameKind.{NameKind}
 use Rattle.awk_resolve.specs.declared.resolved.Resolved.{Resolved}
 use Rattle.sem_scripts.specs.Items.{reads_records, top}
 use Rattle.sem_scripts.specs.Ranges.{range_count}
-use Rattle.mid_program.specs.Translation.{begin_code, declared_code, end_code, items_code, program_with, routine_code}
+use Rattle.mid_program.specs.Translation.{begin_code, declared_code, end_code, items_code, most_parameters, none_lend, program_with, routine_code}
 use Rattle.mid_program.specs.declared.program.Declared.{Declared}
 use Rattle.mid_program.specs.declared.program.Routine.{Routine}
 use Rattle.mid_program.specs.View.{view_declared, view_routine, view_steps, view_texts}
@@ -34,6 +34,7 @@ code_of_parts c r items texts all globals routines ranges begin reads each end =
     let scope = top (script_of r) in
     λ i. record {
       texts = texts;
+      lenders = none_lend (most_parameters (routines i));
       globals = globals i;
       routines = routines i;
       ranges = (ranges ∙ ap (λ (xs : List Item). range_count (view_items xs)) all) i;

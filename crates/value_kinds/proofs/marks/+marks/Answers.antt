@@ -18,7 +18,7 @@ pub mark_argument-returns-in-Code : goal.mark_argument-returns-in-Code
 mark_argument-returns-in-Code t c =
     let fs = view_kept c.args.kept.now in
     given_walked fs (view_walk c.args.walk.now) (view_walk c.mark_code-form.new.walk) (view_walk c.give.new.self) (view_form c.mark_code-form.result) c.args.function c.args.place (view c.in-Code.code)
-    c.mark_code-form.ensures.form c.mark_code-form.ensures.walk c.give.ensures
+    (option_map view_slot c.source_of.result) c.source_of.ensures c.mark_code-form.ensures.form c.mark_code-form.ensures.walk c.give.ensures
     ∙ ap (λ (o : Operand). after (view_walk c.args.walk.now) (stores_given c.args.function c.args.place fs (views (o ∷ [])))) (sym c.in-Code.is)
 
 pub mark_arguments-loop-place-preserved : goal.mark_arguments-loop-place-preserved
