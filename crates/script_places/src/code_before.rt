@@ -140,13 +140,22 @@ impl<'a> CodeBefore<'a> {
         self.machine.encloses(self.place(at), self.call)
     }
 
-    /// Whether a value is copied at a place, in the body of an `if` that only asks whether there is one.
+    /// Whether a value is copied at a place, in the body of an `if` that only asks whether there is one. Where a global lends its value to a parameter, that
+    /// stands in the body of an `if` that asks whether the parameter has nothing.
     fn is_copied_if_any(&self, at: usize) -> bool {
         let (Some(test), Some(next)) = (at.checked_sub(2), at.checked_add(1)) else {
             return false;
         };
         let copied = matches!(self.import(next), Some(Import::OfPrimitive(Primitive::Dup)));
-        copied && self.asks(at, 2) && self.is_passed(test)
+        copied && self.asks(at, 2) && (self.is_passed(test) || self.is_lent(at))
+    }
+
+    /// Whether an `if` that is always passed begins where that does in whose body a lender is copied.
+    fn is_lent(&self, at: usize) -> bool {
+        match at.checked_sub(7) {
+            Some(test) => self.asks(at, 7) && self.is_passed(test),
+            None => false,
+        }
     }
 
     /// Whether the instruction so many places before one has a body, or ends one.
@@ -198,10 +207,31 @@ impl<'a> CodeBefore<'a> {
         for count in 0..before {
             let at = before - 1 - count;
             if self.writes(at, local) {
-                return self.is_passed(at).then_some(at);
+                return if self.is_passed(at) {
+                    Some(at)
+                } else {
+                    self.lent(at)
+                };
             }
         }
         None
+    }
+
+    /// Where the number of a parameter was written last, if at a place a global lends its value: at that place where the parameter has nothing, as the constant
+    /// before says, and else where the parameter was read.
+    fn lent(&self, at: usize) -> Option<usize> {
+        if !self.asks(at, 2) || !self.is_passed(at.checked_sub(2)?) {
+            return None;
+        }
+        match (self.back(at, 1)?, self.back(at, 4)?, self.back(at, 6)?) {
+            (Simple::GlobalGet(_), Simple::I64Const(least), Simple::LocalGet(parameter)) => {
+                match self.machine.local(parameter)? {
+                    Word::I64(bits) if bits == least => Some(at),
+                    _ => at.checked_sub(5),
+                }
+            }
+            _ => None,
+        }
     }
 
     /// Whether a local is written between a place and the call.
@@ -241,10 +271,15 @@ impl<'a> CodeBefore<'a> {
         }
     }
 
-    /// The number that a local had at a place.
+    /// The number that a local had at a place. Where nothing is written into it from there on, it has the number still, whoever wrote it.
     fn number_of(&self, local: u32, at: usize) -> Option<Number> {
-        let read = self.numbered(local, at)?;
-        match self.word_from(local, read)? {
+        let (word, read) = if self.is_written_after(local, at.checked_sub(1)?) {
+            let read = self.numbered(local, at)?;
+            (self.word_from(local, read)?, read)
+        } else {
+            (self.machine.local(local)?, at)
+        };
+        match word {
             Word::I64(bits) => Some(Number { bits, read }),
             Word::I32(_) => None,
         }
@@ -373,7 +408,7 @@ impl<'a> CodeBefore<'a> {
         let start = at.checked_sub(2)?;
         match (primitive, self.instruction(start)?) {
             (Primitive::Dup, Simple::LocalTee(local)) => self.held(
-                start,
+                at.checked_sub(3)?,
                 self.machine.local(local)?,
             ),
             (Primitive::Field, _) => Some(Push::Field {
