@@ -215,6 +215,23 @@ fn blamed(alloc: Global, text: Bytes, fault: Fault) -> Option<Subject>
     }
 }
 
+/// The text of the operand whose code ends at a place, if it can be read again and nothing was changed since.
+fn text_at<W: World>(
+    alloc: Global,
+    code: &CodeBefore<'_>,
+    host: &mut Host<W>,
+    end: usize,
+) -> Option<Bytes>
+    ensures { sight W.state host.new ≡ sight W.state host.old }
+{
+    let found = operand(alloc, code, host, end, MOST_NESTED)?;
+    if code.only_reads(found.read) {
+        Some(found.text)
+    } else {
+        None
+    }
+}
+
 /// The operand whose code ends at a place, if it has the fault.
 fn tried<W: World>(
     alloc: Global,
@@ -226,52 +243,65 @@ fn tried<W: World>(
     ensures same { sight W.state host.new ≡ sight W.state host.old }
     ensures about { IfSome result (IsAbout fault) }
 {
-    let found = operand(alloc, code, host, end, MOST_NESTED)?;
-    if code.only_reads(found.read) {
-        blamed(alloc, found.text, fault)
-    } else {
-        None
-    }
+    blamed(alloc, text_at(alloc, code, host, end)?, fault)
+}
+
+/// Where the code ends of the value to the left of one whose code ends at a place.
+fn value_left_of(code: &CodeBefore<'_>, end: usize) -> Option<usize> {
+    code.value(code.start(end)?)
 }
 
 /// Where the code of a value ends that was an operand before so many others, which end at a place.
 fn value_before(code: &CodeBefore<'_>, at: usize, others: usize) -> Option<usize> {
     let mut end = code.value(at)?;
     for _ in 0..others {
-        end = code.value(code.start(end)?)?;
+        end = value_left_of(code, end)?;
     }
     Some(end)
 }
 
-/// The first of so many values that end at a place which has the fault. If only one may have it, none of several is told.
-fn first_of<W: World>(
+/// The side of a comparison that has the fault. The left one is tried first, so it must be known before the right one is told.
+fn compared<W: World>(
+    alloc: Global,
+    code: &CodeBefore<'_>,
+    host: &mut Host<W>,
+    fault: Fault,
+) -> Option<Subject>
+    ensures same { sight W.state host.new ≡ sight W.state host.old }
+    ensures about { IfSome result (IsAbout fault) }
+{
+    let right = code.value(code.call)?;
+    let text = text_at(alloc, code, host, value_left_of(code, right)?)?;
+    match blamed(alloc, text, fault) {
+        None => tried(alloc, code, host, right, fault),
+        left => left,
+    }
+}
+
+/// The one of so many values that end at a place which has the fault; none unless all of them are known and no other has it.
+fn only_one<W: World>(
     alloc: Global,
     code: &CodeBefore<'_>,
     host: &mut Host<W>,
     at: usize,
     count: usize,
-    alone: bool,
     fault: Fault,
 ) -> Option<Subject>
     ensures same { sight W.state host.new ≡ sight W.state host.old }
     ensures about { IfSome result (IsAbout fault) }
 {
     let mut found = None;
-    let mut at = at;
+    let mut at = Some(at);
     for _ in 0..count {
-        let Some(end) = code.value(at) else {
-            return found;
-        };
-        if let Some(subject) = tried(alloc, code, host, end, fault) {
-            if alone && found.is_some() {
+        let end = code.value(at?)?;
+        let text = text_at(alloc, code, host, end)?;
+        if let Some(subject) = blamed(alloc, text, fault) {
+            if found.is_some() {
                 return None;
             }
             found = Some(subject);
         }
-        match code.start(end) {
-            Some(start) => at = start,
-            None => return found,
-        }
+        at = code.start(end);
     }
     found
 }
@@ -312,19 +342,19 @@ pub(crate) fn argument<W: World>(
     let code = CodeBefore::new(machine)?;
     let call = code.call;
     match code.import(call)? {
-        Import::OfPrimitive(Primitive::ToNum | Primitive::IntOf | Primitive::SetSpecial) => {
-            first_of(alloc, &code, host, call, 1, false, fault)
-        }
-        Import::OfPrimitive(Primitive::Compare) => first_of(
-            alloc, &code, host, call, 2, false, fault,
-        ),
+        Import::OfPrimitive(Primitive::Compare) => compared(alloc, &code, host, fault),
         Import::Variadic(listing) => {
             let (count, end) = formatted(&code, listing)?;
-            first_of(alloc, &code, host, end, count, true, fault)
+            only_one(alloc, &code, host, end, count, fault)
         }
-        Import::OfPrimitive(Primitive::Matches | Primitive::Match | Primitive::Split) => {
-            tried(alloc, &code, host, value_before(&code, call, 0)?, fault)
-        }
+        Import::OfPrimitive(
+            Primitive::ToNum
+            | Primitive::IntOf
+            | Primitive::SetSpecial
+            | Primitive::Matches
+            | Primitive::Match
+            | Primitive::Split,
+        ) => tried(alloc, &code, host, value_before(&code, call, 0)?, fault),
         Import::OfPrimitive(Primitive::Sub) => {
             tried(alloc, &code, host, value_before(&code, call, 2)?, fault)
         }
