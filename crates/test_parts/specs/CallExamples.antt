@@ -1,5 +1,5 @@
 -- What a call of a function takes whose parameter and answer are numbers.
-use Rattle.std.specs.Prelude.{◌≡◌, ℕ, ◌+◌, true, false, List, [], ◌∷◌, codes, Some, pos, refl}
+use Rattle.std.specs.Prelude.{◌≡◌, ℕ, ◌+◌, true, false, [], ◌∷◌, codes, Some, pos, refl}
 use Rattle.std.specs.Fmt.{digits}
 use Rattle.awk_values.specs.declared.comparison.CompareOp.TheVariants.{Less}
 use Rattle.world_core.specs.WorldState.{Standard, puts}

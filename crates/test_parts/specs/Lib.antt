@@ -33,6 +33,7 @@ pub mod CountExamples
 pub mod StepExamples
 pub mod CallExamples
 pub mod LentExamples
+pub mod CopiedExamples
 pub mod QuickExamples
 pub mod HandExamples
 pub mod NotedExamples
