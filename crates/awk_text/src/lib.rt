@@ -11,5 +11,7 @@ mod reading;
 mod text;
 
 pub use escapes::{string_text, unescape};
-pub use number::{MAX_NUMBER, NumberFault, is_nonzero, looks_numeric, number_of, truncated_of};
+pub use number::{
+    MAX_NUMBER, NumberFault, is_nonzero, looks_numeric, number_of, numeric_of, truncated_of,
+};
 pub use text::{NumText, text_of};

@@ -1,5 +1,5 @@
-ghost use Rattle.std.specs.Prelude.{◌≡◌, ℕ, ◌+◌, ◌-◌, ◌*◌, ◌/◌, ◌%◌, ◌^◌, ◌<◌, ◌≤◌, ◌==◌, ◌↔◌, IfSome, IsTrue, min, pos};
-ghost use Rattle.awk_text.specs.Number.{capped, largest, ranged, denominator, is_nonzero_text, looks_numeric_text, number_of_text, numerator, truncated_of_text, value_after};
+ghost use Rattle.std.specs.Prelude.{if◌then◌else◌, ◌≡◌, Some, None, ℕ, ◌+◌, ◌-◌, ◌*◌, ◌/◌, ◌%◌, ◌^◌, ◌<◌, ◌≤◌, ◌==◌, ◌↔◌, IfSome, IsTrue, min, pos};
+ghost use Rattle.awk_text.specs.Number.{capped, largest, ranged, denominator, is_nonzero_text, looks_numeric_text, number_of_text, numerator, truncated_of_text, value_after, whole_value};
 ghost use Rattle.awk_text.specs.NumberText.{IsNonzero, IsNumberOf, IsNumericLooking, IsTruncatedValue, IsWholeValue};
 ghost use Rattle.awk_text.specs.Parts.{parts};
 ghost use Rattle.awk_text.specs.Reading.{AreDigits};
@@ -129,6 +129,18 @@ fn ranged_number(negative: bool, magnitude: u64) -> Result<i64, NumberFault>
     Ok(if negative { -number } else { number })
 }
 
+/// The number of a number text, if it is whole.
+fn whole_number(numeral: &Numeral<'_>) -> Result<i64, NumberFault>
+    requires whole { AreDigits (parts numeral.now).whole }
+    requires fraction { AreDigits (parts numeral.now).fraction }
+    ensures { result ≡ whole_value (parts numeral.now) }
+{
+    match magnitude(numeral) {
+        (number, true) => ranged_number(numeral.negative, number),
+        (_, false) => Err(NumberFault::Fraction),
+    }
+}
+
 /// The number of a text: that of its longest prefix that is number text, or 0 where no prefix is.
 ///
 /// Number text is what POSIX awk calls a decimal-floating-constant (POSIX.1-2017 awk, "Expressions in awk"), after optional space bytes
@@ -147,10 +159,7 @@ pub fn number_of(text: &[u8]) -> Result<i64, NumberFault>
     }
     match read_numeral(text) {
         None => Ok(0),
-        Some((numeral, _)) => match magnitude(&numeral) {
-            (number, true) => ranged_number(numeral.negative, number),
-            (_, false) => Err(NumberFault::Fraction),
-        },
+        Some((numeral, _)) => whole_number(&numeral),
     }
 }
 
@@ -185,6 +194,35 @@ pub fn looks_numeric(text: &[u8]) -> bool
     match read_numeral(text) {
         None => false,
         Some((_, rest)) => spaces(rest) == rest.len(),
+    }
+}
+
+/// The number of a text of any bytes that looks numeric.
+#[inline(never)]
+fn numeric_otherwise(text: &[u8]) -> Option<Result<i64, NumberFault>>
+    ensures { result ≡ (if looks_numeric_text text.now then Some (number_of_text text.now) else None) }
+{
+    let (numeral, rest) = read_numeral(text)?;
+    if spaces(rest) == rest.len() {
+        Some(whole_number(&numeral))
+    } else {
+        None
+    }
+}
+
+/// The number of a text that looks numeric, as [`number_of`] gives it; none of one that does not, as [`looks_numeric`] tells. A text of digits alone is read once.
+///
+/// # Errors
+///
+/// As of [`number_of`].
+#[tactic(auto, using(crate::proofs::Plain::digits_number, crate::proofs::Plain::digits_look))]
+#[inline(always)]
+pub fn numeric_of(text: &[u8]) -> Option<Result<i64, NumberFault>>
+    ensures { result ≡ (if looks_numeric_text text.now then Some (number_of_text text.now) else None) }
+{
+    match plain_number(text) {
+        Some(number) if !text.is_empty() => Some(Ok(number)),
+        _ => numeric_otherwise(text),
     }
 }
 

@@ -6,9 +6,9 @@ ghost use Rattle.awk_values.specs.Values.{text_of_value};
 ghost use Rattle.std.specs.Ordering.{nat_cmp};
 ghost use Rattle.std.specs.Cmp.Lexicographic.{slice_cmp};
 
-use crate::value::number_of_text;
+use crate::value::as_fault;
 use crate::{Fault, Value};
-use awk_text::{NumText, looks_numeric, text_of};
+use awk_text::{NumText, numeric_of, text_of};
 use std::cmp::Ordering;
 
 /// An operator of comparison.
@@ -36,6 +36,7 @@ fn holds(op: CompareOp, order: Ordering) -> bool
 }
 
 /// The number of a side that may be compared as one.
+#[inline(always)]
 fn numeric_side(value: &Value) -> Option<Result<i64, Fault>>
     ensures { result ≡ numeric_side value.now }
 {
@@ -43,13 +44,7 @@ fn numeric_side(value: &Value) -> Option<Result<i64, Fault>>
         Value::Uninit => Some(Ok(0)),
         Value::Num(number) => Some(Ok(*number)),
         Value::Text(_) => None,
-        Value::StrNum(text) => {
-            if looks_numeric(text.as_slice()) {
-                Some(number_of_text(text.as_slice()))
-            } else {
-                None
-            }
-        }
+        Value::StrNum(text) => Some(as_fault(numeric_of(text.as_slice())?)),
     }
 }
 

@@ -37,7 +37,7 @@ impl Value {
     }
 }
 
-fn as_fault(number: Result<i64, NumberFault>) -> Result<i64, Fault>
+pub(crate) fn as_fault(number: Result<i64, NumberFault>) -> Result<i64, Fault>
     ensures { result ≡ as_fault number }
 {
     match number {
