@@ -197,7 +197,7 @@ pub fn looks_numeric(text: &[u8]) -> bool
     }
 }
 
-/// The number of a text of any bytes that looks numeric.
+/// The number of a text of any bytes that looks numeric; none of another.
 #[inline(never)]
 fn numeric_otherwise(text: &[u8]) -> Option<Result<i64, NumberFault>>
     ensures { result ≡ (if looks_numeric_text text.now then Some (number_of_text text.now) else None) }
